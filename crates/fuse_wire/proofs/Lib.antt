@@ -1,0 +1,4 @@
+pub mod ErrorNumbers
+mod Examples
+pub mod Laws
+pub mod RecordLaws

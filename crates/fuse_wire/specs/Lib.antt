@@ -1,0 +1,3 @@
+pub mod Errno
+pub mod Layout
+pub mod Records
