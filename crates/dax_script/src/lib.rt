@@ -1,0 +1,32 @@
+//! The outside of the programs: what they read from and write to, how both fail, the two loops that
+//! read all and write all, and the exit statuses.
+//!
+//! Code over `Source` and `Sink` is proved once, for the process's own streams and for bytes in
+//! memory alike. What they mean stands in their ghost members; the words of the clauses stand in
+//! `specs/`: `Causes` (faults and their count), `Calls` and `Memory` (sources and sinks over
+//! bytes in memory), `Statuses` (the table of numbers).
+#![tactic(auto)]
+
+mod calls;
+mod memory;
+mod reads;
+mod statuses;
+mod std_streams;
+mod sure;
+#[cfg(test)]
+mod tests;
+mod traits;
+mod writes;
+
+pub use memory::{MemSink, MemSource};
+use plain_file::Blob;
+pub use reads::{ReadError, read_all};
+pub use statuses::Status;
+pub use std_streams::{StdSink, StdSource};
+pub use sure::{SureSink, SureSource};
+pub use traits::{Failed, Sink, Source};
+pub use writes::write_all;
+
+/// The bytes of one word of the command line. The words of a command line don't have the program's
+/// name among them.
+pub type Word = Blob;
