@@ -1,0 +1,4 @@
+pub mod Allowed
+pub mod Decoding
+pub mod Laws
+pub mod Ready

@@ -1,0 +1,22 @@
+//! The FUSE daemon over a board of files: it answers one chain of a virtio-fs queue at a time.
+//!
+//! The records, opcodes and error numbers are those of Linux (uapi `fuse.h`, protocol 7.38). What a
+//! request means, the limits, and the order in which a request is refused are this project's own:
+//! `device_step` of `specs/Device.antt` states them, over all that a board of files means.
+//!
+//! For now READ and WRITE are served, with every file open under every fh and the session started.
+//! Node 1 is the directory, and file i of the board has node i + 2.
+//!
+//! `proofs/Laws.antt` says what a well-formed READ and WRITE of a file give, `proofs/Ready.antt`
+//! that files which one caller has for itself can be served chain after chain, and
+//! `proofs/Allowed.antt` that a board lets every read and write through.
+#![tactic(auto)]
+
+mod device;
+mod message;
+mod reply;
+
+pub use device::serve_first;
+
+#[cfg(test)]
+mod tests;
