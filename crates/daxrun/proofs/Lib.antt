@@ -1,0 +1,16 @@
+pub mod OneGuest
+pub mod Replies
+pub mod Requests
+pub mod Playing
+pub mod Printable
+pub mod Told
+pub mod PrintedWords
+pub mod TranscriptExamples
+pub mod CleanWords
+pub mod PrintedLines
+pub mod ReadAgain
+pub mod CleanLines
+pub mod Parts
+pub mod Limits
+pub mod ScriptNames
+pub mod ReadScripts

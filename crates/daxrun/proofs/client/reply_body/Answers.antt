@@ -1,0 +1,25 @@
+use Rattle.std.proofs.Common.{◌≡◌, ◌∙◌, ap, sym, ◌^◌, ◌<◌, ◌+◌, length, true, false, arith}
+use Rattle.fuse_wire.specs.Records.{out_header_of}
+use Rattle.daxrun.proofs.Replies.{success, success_parts}
+use Rattle.daxrun.proofs.client.reply_body.Goals as goal
+
+pub returns-then-reply-lt-SIZE : goal.returns-then-reply-lt-SIZE
+returns-then-reply-lt-SIZE c = λ body small is.
+    let narrow : c.args.unique < 2 ^ 64 = omega arith in
+    let s = success_parts c.args.reply.now c.args.unique body small narrow is in
+    omega (arith, s.len)
+
+pub returns-then-not-is_success : goal.returns-then-not-is_success
+returns-then-not-is_success c = λ body small is.
+    let narrow : c.args.unique < 2 ^ 64 = omega arith in
+    let s = success_parts c.args.reply.now c.args.unique body small narrow is in
+    let found = sym c.unwrap-header.ensures ∙ c.read.ensures.exact ∙ ap out_header_of c.split_at.ensures.front ∙ s.header in
+    let header : c.unwrap-header.result ≡ success (16 + length body) c.args.unique = cc (found) in
+    let never : false ≡ true = c.if-not-is_success.ensures.1 (header ∙ ap (λ n. success n c.args.unique) (sym s.len)) in
+    cc
+
+pub returns : goal.returns
+returns c = λ body small is.
+    let narrow : c.args.unique < 2 ^ 64 = omega arith in
+    let s = success_parts c.args.reply.now c.args.unique body small narrow is in
+    c.split_at.ensures.back ∙ s.rest

@@ -1,0 +1,12 @@
+pub mod Options
+pub mod Words
+pub mod Script
+pub mod ScriptText
+pub mod Transcript
+pub mod TranscriptText
+pub mod Legal
+pub mod Play
+pub mod Client
+pub mod Followed
+pub mod TranscriptReading
+pub mod Run

@@ -1,0 +1,261 @@
+use crate::runs::run;
+use dax_script::{MemSink, MemSource, Status, SureSink, SureSource, Word};
+use plain_file::{Blob, List, Memory};
+use std::alloc::{AllocError, Global};
+use std::test::Fail;
+
+const HELLO: &str = "ranges 0\nfile a 0\nguest\nwrite a 0 68656c6c6f\nread a 0 9\n";
+
+const HELLO_TOLD: &str =
+    "transcript 1\nranges 0\nfile a 0 00\nentry 0 0 req\nentry 0 1 req\nguest 0\n0 done 0 wrote 5\n1 done 1 bytes 68656c6c6f\nend\n";
+
+const USAGE: &str = "usage: daxrun script | load N\n";
+
+/// What a source and a sink do: how many bytes a call gives or takes at the most, 0 for no bound,
+/// and the call that fails, 0 for none.
+#[derive(Clone, Copy)]
+struct Ends {
+    piece: u32,
+    fails: u64,
+}
+
+const SURE: Ends = Ends { piece: 0, fails: 0 };
+
+fn calls(alloc: Global, fails: u64) -> Result<List<u64>, Memory> {
+    let mut calls = List::new(alloc);
+    if fails != 0 {
+        calls.push(fails)?;
+    }
+    Ok(calls)
+}
+
+fn words_of(alloc: Global, words: &[&[u8]]) -> Result<List<Word>, Memory> {
+    let mut list = List::new(alloc);
+    for word in words {
+        list.push(Blob::copy_of(alloc, word)?)?;
+    }
+    Ok(list)
+}
+
+// The status of a run with these words over bytes in memory, and what was taken.
+fn ran(
+    alloc: Global,
+    words: &[&[u8]],
+    input: Blob,
+    from: Ends,
+    to: Ends,
+) -> Result<(Status, Blob), Fail> {
+    let words = words_of(alloc, words)?;
+    let mut source = MemSource::new(input, from.piece, calls(alloc, from.fails)?);
+    let mut sink = MemSink::new(alloc, to.piece, calls(alloc, to.fails)?);
+    let status = run(alloc, words.as_slice(), &mut source, &mut sink);
+    Ok((status, sink.bytes().clone()?))
+}
+
+/// The status of `script` over a text, and what was written.
+pub fn answer_to(alloc: Global, text: &[u8]) -> Result<(Status, Blob), Fail> {
+    ran(
+        alloc,
+        &[b"script".as_slice()],
+        Blob::copy_of(alloc, text)?,
+        SURE,
+        SURE,
+    )
+}
+
+#[test]
+fn writes_transcripts(rt: HostRuntime) -> Result<(), Fail> {
+    for (script, transcript) in [
+        (HELLO, HELLO_TOLD),
+        (
+            "ranges 0\nfile a 0\n",
+            "transcript 1\nranges 0\nfile a 0 00\nend\n",
+        ),
+        (
+            "ranges 0\nfile a 7\nguest\n",
+            "transcript 1\nranges 0\nfile a 7 00\nguest 0\nend\n",
+        ),
+        // Reads past the end, at the end and over it; a write behind a gap.
+        (
+            "ranges 0\nfile notes 4\nguest\nwrite notes 6 6162\nread notes 0 16\nread notes 7 1\nread notes 8 1\nread notes 100 5\nwrite notes 0 7a\nread notes 0 2\n",
+            "transcript 1\nranges 0\nfile notes 4 00\nentry 0 0 req\nentry 0 1 req\nentry 0 2 req\nentry 0 3 req\nentry 0 4 req\nentry 0 5 req\nentry 0 6 req\nguest 0\n0 done 0 wrote 2\n1 done 1 bytes 0000000000006162\n2 done 2 bytes 62\n3 done 3 bytes -\n4 done 4 bytes -\n5 done 5 wrote 1\n6 done 6 bytes 7a00\nend\n",
+        ),
+        // Writes over one another.
+        (
+            "ranges 0\nfile a 2\nguest\nwrite a 1 aabbcc\nwrite a 0 dd\nwrite a 3 eeff\nread a 0 9\nread a 1 3\n",
+            "transcript 1\nranges 0\nfile a 2 00\nentry 0 0 req\nentry 0 1 req\nentry 0 2 req\nentry 0 3 req\nentry 0 4 req\nguest 0\n0 done 0 wrote 3\n1 done 1 wrote 1\n2 done 2 wrote 2\n3 done 3 bytes ddaabbeeff\n4 done 4 bytes aabbee\nend\n",
+        ),
+        // The largest file, read and written at its end.
+        (
+            "ranges 0\nfile big 67108864\nguest\nread big 67108860 4\nwrite big 67108863 01\nread big 67108862 2\n",
+            "transcript 1\nranges 0\nfile big 67108864 00\nentry 0 0 req\nentry 0 1 req\nentry 0 2 req\nguest 0\n0 done 0 bytes 00000000\n1 done 1 wrote 1\n2 done 2 bytes 0001\nend\n",
+        ),
+    ] {
+        let (status, taken) = answer_to(rt.alloc(), script.as_bytes())?;
+        assert_eq!(rt; status, Status::Ok, "{script}");
+        assert_eq!(rt; taken.as_slice(), transcript.as_bytes(), "{script}");
+    }
+    Ok(())
+}
+
+fn pattern_calls(text: &mut String, from: u32, to: u32) -> Result<(), AllocError> {
+    for place in from..to {
+        let byte = place % 256;
+        write!(text, "write a {place} {byte:02x}\nread a {place} 2\n")?;
+    }
+    Ok(())
+}
+
+fn pattern_entries(text: &mut String, calls: u32) -> Result<(), AllocError> {
+    for call in 0..calls {
+        write!(text, "entry 0 {call} req\n")?;
+    }
+    Ok(())
+}
+
+fn pattern_lines(text: &mut String, calls: u32) -> Result<(), AllocError> {
+    for call in 0..calls {
+        let byte = (call / 2) % 256;
+        if call % 2 == 0 {
+            write!(text, "{call} done {call} wrote 1\n")?;
+        } else {
+            write!(text, "{call} done {call} bytes {byte:02x}\n")?;
+        }
+    }
+    Ok(())
+}
+
+// Each write lengthens the file by a byte, which the read after it gives alone.
+#[test]
+fn writes_what_a_formula_says(rt: HostRuntime) -> Result<(), Fail> {
+    let alloc = rt.alloc();
+    let mut script = String::from_str(alloc, "ranges 0\nfile a 0\nguest\n")?;
+    pattern_calls(&mut script, 0, 500)?;
+    let mut told = String::from_str(alloc, "transcript 1\nranges 0\nfile a 0 00\n")?;
+    pattern_entries(&mut told, 1000)?;
+    told.push_str("guest 0\n")?;
+    pattern_lines(&mut told, 1000)?;
+    told.push_str("end\n")?;
+    let (status, taken) = answer_to(alloc, script.as_bytes())?;
+    assert_eq!(rt; status, Status::Ok);
+    assert!(rt; taken.as_slice() == told.as_bytes());
+    Ok(())
+}
+
+#[test]
+fn reads_and_writes_in_any_pieces(rt: HostRuntime) -> Result<(), Fail> {
+    let alloc = rt.alloc();
+    for (from, to) in [(1, 1), (7, 3), (0, 50), (64, 0)] {
+        let input = Blob::copy_of(alloc, HELLO.as_bytes())?;
+        let from = Ends {
+            piece: from,
+            fails: 0,
+        };
+        let to = Ends {
+            piece: to,
+            fails: 0,
+        };
+        let (status, taken) = ran(alloc, &[b"script".as_slice()], input, from, to)?;
+        assert_eq!(rt; status, Status::Ok);
+        assert_eq!(rt; taken.as_slice(), HELLO_TOLD.as_bytes());
+    }
+    Ok(())
+}
+
+#[test]
+fn refuses_words(rt: HostRuntime) -> Result<(), Fail> {
+    let alloc = rt.alloc();
+    for words in [
+        [].as_slice(),
+        [b"".as_slice()].as_slice(),
+        [b"scripts".as_slice()].as_slice(),
+        [b"script".as_slice(), b"x".as_slice()].as_slice(),
+        [b"load".as_slice(), b"0".as_slice()].as_slice(),
+        [b"load".as_slice(), b"1".as_slice()].as_slice(),
+        [b"\xff\xfe".as_slice()].as_slice(),
+    ] {
+        let input = Blob::copy_of(alloc, HELLO.as_bytes())?;
+        let (status, taken) = ran(alloc, words, input, SURE, SURE)?;
+        assert_eq!(rt; status, Status::Usage, "{words:?}");
+        assert_eq!(rt; taken.as_slice(), USAGE.as_bytes());
+    }
+    Ok(())
+}
+
+#[test]
+fn reads_to_its_limit(rt: HostRuntime) -> Result<(), Fail> {
+    let alloc = rt.alloc();
+    for (spaces, status, text) in [
+        (16_777_216, Status::Refused, "refused later\n"),
+        (16_777_217, Status::TooLong, "too long\n"),
+    ] {
+        let input = Blob::from_vec(vec![in alloc; b' '; spaces]?);
+        let (got, taken) = ran(alloc, &[b"script".as_slice()], input, SURE, SURE)?;
+        assert_eq!(rt; got, status);
+        assert_eq!(rt; taken.as_slice(), text.as_bytes());
+    }
+    Ok(())
+}
+
+// The text is read in four pieces, and a fifth call finds the end.
+#[test]
+fn a_source_fails_at_each_call(rt: HostRuntime) -> Result<(), Fail> {
+    let alloc = rt.alloc();
+    for (call, status, len) in [
+        (1, Status::ReadFault, 0),
+        (2, Status::ReadFault, 0),
+        (3, Status::ReadFault, 0),
+        (4, Status::ReadFault, 0),
+        (5, Status::ReadFault, 0),
+        (6, Status::Ok, HELLO_TOLD.len()),
+    ] {
+        let input = Blob::copy_of(alloc, HELLO.as_bytes())?;
+        let from = Ends {
+            piece: 16,
+            fails: call,
+        };
+        let (got, taken) = ran(alloc, &[b"script".as_slice()], input, from, SURE)?;
+        assert_eq!(rt; (got, taken.len()), (status, len), "call {call}");
+    }
+    Ok(())
+}
+
+#[test]
+fn a_sink_fails(rt: HostRuntime) -> Result<(), Fail> {
+    let alloc = rt.alloc();
+    for (words, text, to, taken) in [
+        (
+            b"script".as_slice(),
+            HELLO,
+            Ends {
+                piece: 10,
+                fails: 2,
+            },
+            "transcript",
+        ),
+        (b"script".as_slice(), HELLO, Ends { piece: 0, fails: 1 }, ""),
+        (
+            b"script".as_slice(),
+            "ranges 1\n",
+            Ends { piece: 7, fails: 2 },
+            "refused",
+        ),
+        (b"none".as_slice(), "", Ends { piece: 5, fails: 2 }, "usage"),
+    ] {
+        let input = Blob::copy_of(alloc, text.as_bytes())?;
+        let (status, got) = ran(alloc, &[words], input, SURE, to)?;
+        assert_eq!(rt; status, Status::WriteFault);
+        assert_eq!(rt; got.as_slice(), taken.as_bytes());
+    }
+    Ok(())
+}
+
+#[test]
+fn nothing_fails_over_sure_ends(rt: HostRuntime) -> Result<(), Fail> {
+    let alloc = rt.alloc();
+    let words = words_of(alloc, &[b"script".as_slice()])?;
+    let mut source = SureSource::new(Blob::copy_of(alloc, HELLO.as_bytes())?);
+    let status = run(alloc, words.as_slice(), &mut source, &mut SureSink::new());
+    assert_eq!(rt; status, Status::Ok);
+    Ok(())
+}
