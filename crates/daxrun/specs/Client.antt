@@ -1,5 +1,5 @@
 -- The requests of a client, and the replies to them.
-use Rattle.std.specs.Prelude.{◌≡◌, ℕ, ◌+◌, List, Option, Some, None}
+use Rattle.std.specs.Prelude.{◌≡◌, ℕ, ◌+◌, ◌-◌, ◌^◌, ◌==◌, List, Option, Some, None, if◌then◌else◌}
 use Rattle.fuse_wire.specs.declared.records.InHeader.{InHeader}
 use Rattle.fuse_wire.specs.declared.records.ReadIn.{ReadIn}
 use Rattle.fuse_wire.specs.declared.records.WriteIn.{WriteIn}
@@ -18,3 +18,7 @@ write_for off size = record { fh = 0; offset = off; size = size; write_flags = 0
 abbrev pub IsBody : List ℕ → Option (List ℕ) → Type 0
 IsBody body None = ⊥
 IsBody body (Some b) = b ≡ body
+
+-- the number of the next request: from 1 on, and after the last u64 again from 1
+abbrev pub next_number : ℕ → ℕ
+next_number n = if n == 2 ^ 64 - 1 then 1 else n + 1

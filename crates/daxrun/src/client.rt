@@ -1,13 +1,13 @@
-ghost use Rattle.std.specs.Prelude.{IsTrue, ◌↔◌, List, ℕ, ◌≡◌, ◌<◌, ◌≤◌, ◌+◌, ◌^◌, pos, length, take, drop, ◌++◌, IfOk, OnOk, Some, None, true};
+ghost use Rattle.std.specs.Prelude.{IsTrue, ◌↔◌, List, ℕ, ◌≡◌, ◌<◌, ◌≤◌, ◌+◌, ◌^◌, pos, length, take, drop, ◌++◌, IfOk, IfSome, OnOk, Some, None, true};
 ghost use Rattle.fuse_wire.specs.Layout.{clean, FitsParts};
-ghost use Rattle.fuse_wire.specs.Records.{in_header, read_in, write_in};
+ghost use Rattle.fuse_wire.specs.Records.{in_header, out_header_of, read_in, write_in};
 ghost use Rattle.plain_file.specs.declared.operations.Op.TheVariants as ops;
 ghost use Rattle.plain_file.specs.declared.operations.Answer.TheVariants as answers;
 ghost use Rattle.plain_file.specs.File.{max_file, answer};
 ghost use Rattle.plain_file.specs.Board.{file_at, bytes_now, applied};
 ghost use Rattle.daemon_core.specs.Gives.{AreReady};
 ghost use Rattle.daemon_core.specs.Replies.{reply_with};
-ghost use Rattle.daxrun.specs.Client.{head_for, read_for, write_for, IsBody};
+ghost use Rattle.daxrun.specs.Client.{head_for, read_for, write_for, next_number, IsBody};
 ghost use Rattle.std.specs.Option.{option_copied};
 ghost use Rattle.std.specs.List.{AllByRecursion};
 ghost use Rattle.daxrun.specs.Script.{max_call};
@@ -16,6 +16,7 @@ use daemon_core::serve_first;
 use fuse_wire::{InHeader, OutHeader, ReadIn, WriteIn, WriteOut};
 use plain_file::{Blob, FileBoard, Memory};
 use std::alloc::Global;
+use std::marker::Model;
 
 const READ: u32 = 15;
 
@@ -23,19 +24,33 @@ const WRITE: u32 = 16;
 
 /// The guest's end of the requests: each call sends one request with a number of its own, and reads
 /// the reply to it. Lengths are 1 to 1,048,576 bytes, ends at most 67,108,864.
+///
+/// Contracts see the number that the last request had, 0 before the first.
 #[derive(Debug, Drop)]
 pub struct Client {
-    // The number that the last request had, 0 before the first.
     unique: u64,
 }
 
+impl Model for Client {
+    ghost use Rattle.std.specs.Prelude.{ℕ};
+
+    ghost Value = { ℕ };
+
+    ghost view = { λ it. it.unique };
+}
+
 impl Client {
-    pub fn new() -> Client {
+    pub fn new() -> Client
+        ensures { result ≡ 0 }
+    {
         Client { unique: 0 }
     }
 
     // Numbers begin with 1, and after the last u64 again with 1.
-    fn next_unique(&mut self) -> u64 {
+    fn next_unique(&mut self) -> u64
+        ensures value { result ≡ next_number self.old }
+        ensures kept { self.new ≡ result }
+    {
         self.unique = if self.unique == u64::MAX {
             1
         } else {
@@ -61,6 +76,7 @@ impl Client {
         ensures bytes { IfOk result (λ b. answers.Bytes b ≡ answer (bytes_now (file_at (F.board files.old) file)) (ops.Read off len)) }
         ensures fit { IfOk result (AllByRecursion (λ b. b < 256)) }
         ensures board { OnOk result (F.board files.new ≡ applied (F.board files.old) file (ops.Read off len)) }
+        ensures number { self.new ≡ next_number self.old }
     {
         let unique = self.next_unique();
         let request = read_request(alloc, unique, file, off, len)?;
@@ -88,6 +104,7 @@ impl Client {
         requires end { off + length bytes.now ≤ max_file }
         ensures size { IfOk result (λ n. n ≡ length bytes.now) }
         ensures board { OnOk result (F.board files.new ≡ applied (F.board files.old) file (ops.Write off bytes.now)) }
+        ensures number { self.new ≡ next_number self.old }
     {
         let unique = self.next_unique();
         let request = write_request(alloc, unique, file, off, bytes)?;
@@ -163,7 +180,8 @@ fn write_request(
 // What follows the header of a reply that says success to the request with this number, and that is
 // as long as it says.
 fn reply_body(reply: &[u8], unique: u64) -> Option<&[u8]>
-    ensures { (body : List ℕ) → 16 + length body < 2 ^ 32 → reply.now ≡ reply_with (pos 0) unique body → IsBody body (option_copied result) }
+    ensures found { (body : List ℕ) → 16 + length body < 2 ^ 32 → reply.now ≡ reply_with (pos 0) unique body → IsBody body (option_copied result) }
+    ensures only { IfSome (option_copied result) (λ body. (out_header_of (take 16 reply.now) ≡ Some (record { len = length reply.now; error = pos 0; unique = unique })) × (body ≡ drop 16 reply.now)) }
 {
     if reply.len() < OutHeader::SIZE {
         return None;

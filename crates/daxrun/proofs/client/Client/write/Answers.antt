@@ -8,13 +8,13 @@ pub unreachable-requires : goal.unreachable-requires
 unreachable-requires g c =
     let v = g.F.FileBoard.board c.args.files.now in
     let s = write_gives v c.next_unique-unique.result c.args.file c.args.off c.args.bytes.now c.as_slice.result.now (c.as_slice.ensures ∙ c.in_ok-request.ensures.bytes) c.in_ok-request.ensures.fits c.requires.file c.requires.most c.requires.end in
-    c.in_default.ensures _ s.small (c.as_slice-2.ensures ∙ c.in_ok-reply.ensures.reply ∙ s.reply)
+    c.in_default.ensures.found _ s.small (c.as_slice-2.ensures ∙ c.in_ok-reply.ensures.reply ∙ s.reply)
 
 pub unwrap-out-requires : goal.unwrap-out-requires
 unwrap-out-requires g c =
     let v = g.F.FileBoard.board c.args.files.now in
     let s = write_gives v c.next_unique-unique.result c.args.file c.args.off c.args.bytes.now c.as_slice.result.now (c.as_slice.ensures ∙ c.in_ok-request.ensures.bytes) c.in_ok-request.ensures.fits c.requires.file c.requires.most c.requires.end in
-    let body = c.in-Some.ensures _ s.small (c.as_slice-2.ensures ∙ c.in_ok-reply.ensures.reply ∙ s.reply) in
+    let body = c.in-Some.ensures.found _ s.small (c.as_slice-2.ensures ∙ c.in_ok-reply.ensures.reply ∙ s.reply) in
     let small : length c.args.bytes.now < 2 ^ 32 = omega (arith, c.requires.most) in
     rw (c.read.ensures.exact, body, write_out_of-clean (length c.args.bytes.now) small) refl
 
@@ -22,7 +22,7 @@ pub returns-clause-size : goal.returns-clause-size
 returns-clause-size g c =
     let v = g.F.FileBoard.board c.args.files.now in
     let s = write_gives v c.next_unique-unique.result c.args.file c.args.off c.args.bytes.now c.as_slice.result.now (c.as_slice.ensures ∙ c.in_ok-request.ensures.bytes) c.in_ok-request.ensures.fits c.requires.file c.requires.most c.requires.end in
-    let body = c.in-Some.ensures _ s.small (c.as_slice-2.ensures ∙ c.in_ok-reply.ensures.reply ∙ s.reply) in
+    let body = c.in-Some.ensures.found _ s.small (c.as_slice-2.ensures ∙ c.in_ok-reply.ensures.reply ∙ s.reply) in
     let small : length c.args.bytes.now < 2 ^ 32 = omega (arith, c.requires.most) in
     let found = sym c.unwrap-out.ensures ∙ c.read.ensures.exact ∙ ap write_out_of body ∙ write_out_of-clean (length c.args.bytes.now) small in
     cc (found)
