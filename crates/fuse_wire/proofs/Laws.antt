@@ -116,6 +116,22 @@ spelled_from (p ∷ ps) at bytes fits len h =
 pub spelled : (ps : List Part) (bytes : List ℕ) → ((i : ℕ) → get_or bytes i 0 < 256) → length bytes ≡ parts_len ps → AreAt ps 0 bytes → AreSpelled ps bytes
 spelled ps bytes fits len h = spelled_from ps 0 bytes fits (omega arith) h
 
+-- ---- the places of a tail
+
+pub tail_places : (ps : List Part) (from at : ℕ) (bytes : List ℕ) → AreAt ps at (drop from bytes) → AreAt ps (from + at) bytes
+tail_places [] from at bytes h = tt
+tail_places (p ∷ ps) from at bytes h = (
+  subst (λ (xs : List ℕ). IsFirst p xs) (drop-drop at from bytes) h.0,
+  subst (λ (n : ℕ). AreAt ps n bytes) (omega arith) (tail_places ps from (at + part_len p) bytes h.1),
+)
+
+pub places_of_tail : (ps : List Part) (from at : ℕ) (bytes : List ℕ) → AreAt ps (from + at) bytes → AreAt ps at (drop from bytes)
+places_of_tail [] from at bytes h = tt
+places_of_tail (p ∷ ps) from at bytes h = (
+  subst (λ (xs : List ℕ). IsFirst p xs) (sym (drop-drop at from bytes)) h.0,
+  places_of_tail ps from (at + part_len p) bytes (subst (λ (n : ℕ). AreAt ps n bytes) (omega arith) h.1),
+)
+
 -- ---- parts after parts
 
 pub joined : (ps qs : List Part) (a b : List ℕ) → AreSpelled ps a → AreSpelled qs b → AreSpelled (ps ++ qs) (a ++ b)

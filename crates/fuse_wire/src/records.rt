@@ -7,12 +7,20 @@ ghost use Rattle.fuse_wire.specs.declared.records.ReadIn.{ReadIn};
 ghost use Rattle.fuse_wire.specs.declared.records.WriteIn.{WriteIn};
 ghost use Rattle.fuse_wire.specs.declared.records.WriteOut.{WriteOut};
 
-use crate::numbers::{i32_at, i32_bytes, u16_at, u16_bytes, u32_at, u32_bytes, u64_at, u64_bytes};
+use crate::fields::{put_fields, take_fields};
 
-// Each value's bytes at their place in a record's array.
-macro_rules! put_fields {
-    ($out:ident, $($from:literal .. $to:literal = $value:expr),* $(,)?) => {
-        $($out[$from..$to].copy_from_slice(&$value);)*
+macro_rules! in_header_fields {
+    ($with:ident, $($place:tt)*) => {
+        $with!($($place)*;
+            len: u32 at 0..4,
+            opcode: u32 at 4..8,
+            unique: u64 at 8..16,
+            nodeid: u64 at 16..24,
+            uid: u32 at 24..28,
+            gid: u32 at 28..32,
+            pid: u32 at 32..36,
+            total_extlen: u16 at 36..38,
+        )
     };
 }
 
@@ -55,16 +63,7 @@ impl InHeader {
         if bytes.len() != InHeader::SIZE {
             return None;
         }
-        Some(InHeader {
-            len: u32_at(bytes, 0),
-            opcode: u32_at(bytes, 4),
-            unique: u64_at(bytes, 8),
-            nodeid: u64_at(bytes, 16),
-            uid: u32_at(bytes, 24),
-            gid: u32_at(bytes, 28),
-            pid: u32_at(bytes, 32),
-            total_extlen: u16_at(bytes, 36),
-        })
+        Some(in_header_fields!(take_fields, InHeader, bytes))
     }
 
     /// The record's bytes, with padding 0.
@@ -75,19 +74,19 @@ impl InHeader {
         ensures again { in_header_of result ≡ Some self.now }
     {
         let mut out = [0; InHeader::SIZE];
-        put_fields!(
-            out,
-            0..4 = u32_bytes(self.len),
-            4..8 = u32_bytes(self.opcode),
-            8..16 = u64_bytes(self.unique),
-            16..24 = u64_bytes(self.nodeid),
-            24..28 = u32_bytes(self.uid),
-            28..32 = u32_bytes(self.gid),
-            32..36 = u32_bytes(self.pid),
-            36..38 = u16_bytes(self.total_extlen),
-        );
+        in_header_fields!(put_fields, self, out);
         out
     }
+}
+
+macro_rules! out_header_fields {
+    ($with:ident, $($place:tt)*) => {
+        $with!($($place)*;
+            len: u32 at 0..4,
+            error: i32 at 4..8,
+            unique: u64 at 8..16,
+        )
+    };
 }
 
 /// The header of each reply: `struct fuse_out_header` of Linux uapi `fuse.h`, protocol 7.38.
@@ -116,11 +115,7 @@ impl OutHeader {
         if bytes.len() != OutHeader::SIZE {
             return None;
         }
-        Some(OutHeader {
-            len: u32_at(bytes, 0),
-            error: i32_at(bytes, 4),
-            unique: u64_at(bytes, 8),
-        })
+        Some(out_header_fields!(take_fields, OutHeader, bytes))
     }
 
     /// The record's bytes.
@@ -131,14 +126,22 @@ impl OutHeader {
         ensures again { out_header_of result ≡ Some self.now }
     {
         let mut out = [0; OutHeader::SIZE];
-        put_fields!(
-            out,
-            0..4 = u32_bytes(self.len),
-            4..8 = i32_bytes(self.error),
-            8..16 = u64_bytes(self.unique),
-        );
+        out_header_fields!(put_fields, self, out);
         out
     }
+}
+
+macro_rules! read_in_fields {
+    ($with:ident, $($place:tt)*) => {
+        $with!($($place)*;
+            fh: u64 at 0..8,
+            offset: u64 at 8..16,
+            size: u32 at 16..20,
+            read_flags: u32 at 20..24,
+            lock_owner: u64 at 24..32,
+            flags: u32 at 32..36,
+        )
+    };
 }
 
 /// The body of FUSE_READ and FUSE_READDIR: `struct fuse_read_in` of Linux uapi `fuse.h`, protocol 7.38.
@@ -176,14 +179,7 @@ impl ReadIn {
         if bytes.len() != ReadIn::SIZE {
             return None;
         }
-        Some(ReadIn {
-            fh: u64_at(bytes, 0),
-            offset: u64_at(bytes, 8),
-            size: u32_at(bytes, 16),
-            read_flags: u32_at(bytes, 20),
-            lock_owner: u64_at(bytes, 24),
-            flags: u32_at(bytes, 32),
-        })
+        Some(read_in_fields!(take_fields, ReadIn, bytes))
     }
 
     /// The record's bytes, with padding 0.
@@ -194,17 +190,22 @@ impl ReadIn {
         ensures again { read_in_of result ≡ Some self.now }
     {
         let mut out = [0; ReadIn::SIZE];
-        put_fields!(
-            out,
-            0..8 = u64_bytes(self.fh),
-            8..16 = u64_bytes(self.offset),
-            16..20 = u32_bytes(self.size),
-            20..24 = u32_bytes(self.read_flags),
-            24..32 = u64_bytes(self.lock_owner),
-            32..36 = u32_bytes(self.flags),
-        );
+        read_in_fields!(put_fields, self, out);
         out
     }
+}
+
+macro_rules! write_in_fields {
+    ($with:ident, $($place:tt)*) => {
+        $with!($($place)*;
+            fh: u64 at 0..8,
+            offset: u64 at 8..16,
+            size: u32 at 16..20,
+            write_flags: u32 at 20..24,
+            lock_owner: u64 at 24..32,
+            flags: u32 at 32..36,
+        )
+    };
 }
 
 /// The front of FUSE_WRITE's body, which the bytes to be written follow:
@@ -243,14 +244,7 @@ impl WriteIn {
         if bytes.len() != WriteIn::SIZE {
             return None;
         }
-        Some(WriteIn {
-            fh: u64_at(bytes, 0),
-            offset: u64_at(bytes, 8),
-            size: u32_at(bytes, 16),
-            write_flags: u32_at(bytes, 20),
-            lock_owner: u64_at(bytes, 24),
-            flags: u32_at(bytes, 32),
-        })
+        Some(write_in_fields!(take_fields, WriteIn, bytes))
     }
 
     /// The record's bytes, with padding 0.
@@ -261,17 +255,17 @@ impl WriteIn {
         ensures again { write_in_of result ≡ Some self.now }
     {
         let mut out = [0; WriteIn::SIZE];
-        put_fields!(
-            out,
-            0..8 = u64_bytes(self.fh),
-            8..16 = u64_bytes(self.offset),
-            16..20 = u32_bytes(self.size),
-            20..24 = u32_bytes(self.write_flags),
-            24..32 = u64_bytes(self.lock_owner),
-            32..36 = u32_bytes(self.flags),
-        );
+        write_in_fields!(put_fields, self, out);
         out
     }
+}
+
+macro_rules! write_out_fields {
+    ($with:ident, $($place:tt)*) => {
+        $with!($($place)*;
+            size: u32 at 0..4,
+        )
+    };
 }
 
 /// The body of FUSE_WRITE's reply: `struct fuse_write_out` of Linux uapi `fuse.h`, protocol 7.38.
@@ -299,9 +293,7 @@ impl WriteOut {
         if bytes.len() != WriteOut::SIZE {
             return None;
         }
-        Some(WriteOut {
-            size: u32_at(bytes, 0),
-        })
+        Some(write_out_fields!(take_fields, WriteOut, bytes))
     }
 
     /// The record's bytes, with padding 0.
@@ -312,7 +304,7 @@ impl WriteOut {
         ensures again { write_out_of result ≡ Some self.now }
     {
         let mut out = [0; WriteOut::SIZE];
-        put_fields!(out, 0..4 = u32_bytes(self.size),);
+        write_out_fields!(put_fields, self, out);
         out
     }
 }

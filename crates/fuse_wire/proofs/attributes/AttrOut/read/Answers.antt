@@ -1,0 +1,12 @@
+use Rattle.std.proofs.Common.{rules, arith}
+use Rattle.fuse_wire.specs.Attributes.{attr_out_of}
+use Rattle.fuse_wire.proofs.AttributeLaws.{attr_out_law}
+use Rattle.fuse_wire.proofs.attributes.AttrOut.read.Goals as goal
+
+pub returns-clause-found : goal.returns-clause-found
+unfolding attr_out_of
+returns-clause-found c = attr_out_law.found c.args.bytes.now _ (λ i. omega (arith, c.type_inv.bytes i)) (search rules)
+
+pub returns-clause-only : goal.returns-clause-only
+unfolding attr_out_of
+returns-clause-only c = λ r h. let p = attr_out_law.again r c.args.bytes.now h in search (rules, p)
