@@ -6,7 +6,7 @@ ghost use Rattle.dax_script.specs.Calls.{after_call, fails_next, first_calls, pa
 
 use crate::calls::Calls;
 use crate::traits::{Failed, Sink, Source};
-use plain_file::{Blob, List, Memory};
+use plain_file::{Blob, List};
 use std::alloc::Global;
 use std::marker::Model;
 

@@ -31,7 +31,7 @@ refused_line = codes "refused later\n"
 abbrev pub too_long_line : List ℕ
 too_long_line = codes "too long\n"
 
--- the text is that of a transcript which is legal for the script that the input is, and no other transcript has it
+-- the text is that of a transcript which is legal for the script that the input is, and it is read as this transcript
 pub record Transcribes (input text : List ℕ) : Type 0 where
   pub script : Script
   pub transcript : Transcript
@@ -56,17 +56,6 @@ abbrev pub due_status : List (List ℕ) → List ℕ → Status
 due_status words input =
     if is_script_command words then (if nat_lt limit (length input) then statuses.TooLong else if is_none (script_of input) then statuses.Refused else statuses.Ok)
     else statuses.Usage
-
--- a fault of the source or of the sink, or want of memory
-abbrev pub Fails : Status → Type 0
-Fails statuses.ReadFault = Unit {0}
-Fails statuses.WriteFault = Unit {0}
-Fails statuses.Memory = Unit {0}
-Fails statuses.Ok = ⊥
-Fails statuses.Refused = ⊥
-Fails statuses.Usage = ⊥
-Fails statuses.TooLong = ⊥
-Fails statuses.NotLegal = ⊥
 
 -- the due status, or a failure
 abbrev pub IsExpected : Status → Status → Type 0

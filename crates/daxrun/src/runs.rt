@@ -1,6 +1,6 @@
 ghost use Rattle.std.specs.Prelude.{◌≡◌, ◌≢◌, ◌≤◌, ◌<◌, ◌+◌, ℕ, List, true, false, Some, None, length, IfOk, IfSome};
 ghost use Rattle.std.specs.Io.KnownBytes.{Appends, Keeps, IsAtEnd};
-ghost use Rattle.dax_script.specs.Causes.{Rose, AppendsPart, TakesAtMost};
+ghost use Rattle.dax_script.specs.Causes.{Rose, AppendsPart, TakesAtMost, buffer};
 ghost use Rattle.dax_script.specs.declared.statuses.Status.{Status};
 ghost use Rattle.daxrun.specs.declared.scripts.Script.{Script};
 ghost use Rattle.daxrun.specs.ScriptText.{script_of};
@@ -54,7 +54,7 @@ pub fn run<S: Source, K: Sink>(
     ensures no_command { is_script_command words.now ≡ false → IsUsageOrWriteFault result × (source.new ≡ source.old) }
     ensures complete { (input : List ℕ) (s : Script) → is_script_command words.now ≡ true → S.left source.old ≡ Some input → length input ≤ limit → script_of input ≡ Some s
         → (Rose (S.faults source.old) (S.faults source.new) → ⊥) → (Rose (K.faults sink.old) (K.faults sink.new) → ⊥) → IsOkOrMemory result }
-    ensures most { TakesAtMost (limit + 4096) (S.left source.old) (S.left source.new) }
+    ensures most { TakesAtMost (limit + buffer) (S.left source.old) (S.left source.new) }
 {
     if !is_script(words) {
         return match write_all(sink, b"usage: daxrun script | load N\n") {
