@@ -234,6 +234,7 @@ fn keeps_lists(rt: HostRuntime) -> Result<(), Fail> {
     assert_eq!(rt; bytes.as_slice(), [7, 8].as_slice());
     bytes.extend_from_slice(&[9, 10])?;
     assert_eq!(rt; bytes.as_slice(), [7, 8, 9, 10].as_slice());
+    assert_eq!(rt; bytes.into_vec(), vec![in alloc; 7, 8, 9, 10]?);
     plain_file_laws();
     Ok(())
 }
