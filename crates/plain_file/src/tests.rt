@@ -215,6 +215,9 @@ fn tells_names_from_other_bytes(rt: HostRuntime) -> Result<(), Fail> {
         if let Some(name) = name {
             assert_eq!(rt; name.as_slice(), bytes);
             assert!(rt; name.clone()? == name);
+            assert!(rt; Name::copy_of(alloc, bytes)?.unwrap() == name);
+        } else {
+            assert!(rt; Name::copy_of(alloc, bytes)?.is_none());
         }
     }
     Ok(())
