@@ -1,0 +1,4 @@
+pub mod Grammar
+pub mod Opcodes
+pub mod Reading
+pub mod Replies
