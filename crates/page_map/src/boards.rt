@@ -45,7 +45,8 @@ pub trait MapBoard {
         requires room { span.now.foffset + span.now.len ≤ 2 ^ 64 }
         ensures painted { map self.new ≡ painted (map self.old) span.now }
         ensures adds { AddsAct (map self.old) (map self.new) (set span.now) }
-        ensures others { KeepsOthers (map self.old) (map self.new) (set span.now) };
+        ensures others { KeepsOthers (map self.old) (map self.new) (set span.now) }
+        ensures pages { length (map self.new).table ≡ length (map self.old).table };
 
     /// Unmaps the pages of an interval of the window, whether or not they were mapped. The others
     /// stay.
@@ -57,5 +58,6 @@ pub trait MapBoard {
         requires whole { IsTrue (is_whole (length (map self.old).table) moffset len) }
         ensures wiped { map self.new ≡ wiped (map self.old) moffset len }
         ensures adds { AddsAct (map self.old) (map self.new) (clear moffset len) }
-        ensures others { KeepsOthers (map self.old) (map self.new) (clear moffset len) };
+        ensures others { KeepsOthers (map self.old) (map self.new) (clear moffset len) }
+        ensures pages { length (map self.new).table ≡ length (map self.old).table };
 }
