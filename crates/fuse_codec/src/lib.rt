@@ -1,12 +1,18 @@
 //! FUSE requests and replies as bytes, whole: what a message is, and what bytes spell it.
 #![tactic(auto)]
 
+mod decoding;
 mod errors;
+mod gather;
+mod limits;
 mod messages;
 mod opcodes;
 mod replies;
 
+pub use decoding::decode_request;
 pub use errors::{BadDirents, BadReply, BadRequest};
+pub use gather::Gather;
+pub use limits::{MAX_PART, MAX_REMOVED, MAX_TRANSFER};
 pub use messages::{Head, Message, Request};
 pub use opcodes::{Opcode, ReplyForm};
 pub use replies::{Dirent, Reply};
