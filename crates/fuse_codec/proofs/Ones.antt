@@ -60,3 +60,41 @@ ones_again parts at law (x ∷ xs) bytes h =
     let front : take 16 bytes ≡ s.front = ap (take 16) s.whole ∙ take_at s.front s.back 16 len in
     let back : drop 16 bytes ≡ s.back = ap (drop 16) s.whole ∙ drop_at s.front s.back 16 len in
     (omega (arith, ap length s.whole, length-append s.front s.back, more.0, len), rw (front, back, g.1, more.1) refl)
+
+-- ---- writing, from turn to turn
+
+pub put_more : {R : Type 0} (parts : R → List Part) (out : List ℕ) (ones : List R) (i : ℕ) (one : R) (total : List ℕ) → i < length ones → out ++ clean (flat_map parts (drop i ones)) ≡ total
+    → (out ++ clean (parts (get_or ones i one))) ++ clean (flat_map parts (drop (i + 1) ones)) ≡ total
+put_more {R} parts out ones i one total lt so_far =
+    let x = get_or ones i one in
+    let rest = drop (i + 1) ones in
+    let opened : clean (flat_map parts (drop i ones)) ≡ clean (parts x) ++ clean (flat_map parts rest) =
+    ap (λ (xs : List R). clean (flat_map parts xs)) (drop_more ones i one lt) ∙ ap clean (flat_map-cons parts x rest) ∙ clean_append (parts x) (flat_map parts rest) in
+    append_assoc out (clean (parts x)) (clean (flat_map parts rest)) ∙ ap (λ (xs : List ℕ). out ++ xs) (sym opened) ∙ so_far
+
+pub put_end : {R : Type 0} (parts : R → List Part) (out : List ℕ) (ones : List R) (i : ℕ) (total : List ℕ) → length ones ≤ i → out ++ clean (flat_map parts (drop i ones)) ≡ total → out ≡ total
+put_end parts out ones i total le so_far =
+    let opened : out ++ clean (flat_map parts []) ≡ total = rw (drop_all i ones le) at so_far in
+    sym (append-nil out) ∙ opened
+
+-- ---- the numbers of records, from turn to turn
+
+pub fits_none : FitsParts []
+unfolding FitsParts
+fits_none = tt
+
+pub fits_more : {R : Type 0} (parts : R → List Part) (ones : List R) (i : ℕ) (one : R) → i < length ones → FitsParts (flat_map parts (take i ones)) → FitsParts (parts (get_or ones i one)) → FitsParts (flat_map parts (take (i + 1) ones))
+fits_more parts ones i one lt before now =
+    let x = get_or ones i one in
+    let both = FitsParts_append (flat_map parts (take i ones)) (parts x) before now in
+    let last : flat_map parts (x ∷ []) ≡ parts x = flat_map-cons parts x [] ∙ append-nil (parts x) in
+    rw (take_more ones i one lt, flat_map-append parts (take i ones) (x ∷ []), last) both
+
+pub fits_all : {R : Type 0} (parts : R → List Part) (ones : List R) (i : ℕ) → length ones ≤ i → FitsParts (flat_map parts (take i ones)) → FitsParts (flat_map parts ones)
+fits_all parts ones i le h = rw (take_all i ones le) at h
+
+-- ---- how many bytes they take
+
+pub ones_len : {R : Type 0} {of : List ℕ → Option R} (parts : R → List Part) → IsRecord 16 parts of → (ones : List R) → parts_len (flat_map parts ones) ≡ 16 * length ones
+ones_len parts law [] = refl
+ones_len parts law (x ∷ xs) = omega (arith, ap parts_len (flat_map-cons parts x xs), parts_len_append (parts x) (flat_map parts xs), law.sized x, ones_len parts law xs)

@@ -2,7 +2,9 @@
 #![tactic(auto)]
 
 mod decoding;
+mod encoding;
 mod errors;
+mod fitting;
 mod gather;
 mod limits;
 mod messages;
@@ -10,6 +12,7 @@ mod opcodes;
 mod replies;
 
 pub use decoding::decode_request;
+pub use encoding::{encode_request, put_request};
 pub use errors::{BadDirents, BadReply, BadRequest};
 pub use gather::Gather;
 pub use limits::{MAX_PART, MAX_REMOVED, MAX_TRANSFER};
