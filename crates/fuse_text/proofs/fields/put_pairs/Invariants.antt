@@ -1,0 +1,7 @@
+use Rattle.std.proofs.Common.{◌≡◌, ◌++◌, take}
+use Rattle.std.specs.List.{flat_map}
+use Rattle.fuse_text.specs.FieldText.{field}
+use Rattle.fuse_text.proofs.fields.put_pairs.Given as goal
+
+abbrev pub invariant-loop-name : goal.invariant-loop-name
+invariant-loop-name l = l.out.items ≡ l.fn.out.items ++ flat_map (λ p. field p.0.now p.1) (take l.name-index l.pairs)
