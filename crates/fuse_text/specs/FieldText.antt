@@ -1,5 +1,5 @@
 -- One field of a line of text, and the fields of a layout.
-use Rattle.std.specs.Prelude.{ℕ, ℤ, List, [], ◌∷◌, ◌++◌}
+use Rattle.std.specs.Prelude.{ℕ, List, [], ◌∷◌, ◌++◌}
 use Rattle.std.specs.Fmt.{decimal, signed_decimal}
 use Rattle.hex.specs.Hex.{encode_lower}
 use Rattle.fuse_wire.specs.Layout.{Part, U16, U32, U64, I32, Unused, Bytes}

@@ -35,11 +35,9 @@ getattr_in_text r = fields (codes "getattr_flags" ∷ codes "fh" ∷ []) (getatt
 -- SETATTR's body
 unfoldable pub setattr_in_text : SetattrIn → List ℕ
 setattr_in_text r =
-    fields
-        (codes "valid" ∷ codes "fh" ∷ codes "size" ∷ codes "lock_owner" ∷ codes "atime" ∷ codes "mtime"
-        ∷ codes "ctime" ∷ codes "atimensec" ∷ codes "mtimensec" ∷ codes "ctimensec" ∷ codes "mode"
-        ∷ codes "uid" ∷ codes "gid" ∷ [])
-        (setattr_in r)
+    let names = codes "valid" ∷ codes "fh" ∷ codes "size" ∷ codes "lock_owner" ∷ codes "atime" ∷ codes "mtime" ∷ codes "ctime"
+    ∷ codes "atimensec" ∷ codes "mtimensec" ∷ codes "ctimensec" ∷ codes "mode" ∷ codes "uid" ∷ codes "gid" ∷ [] in
+    fields names (setattr_in r)
 
 -- OPEN's and OPENDIR's body
 unfoldable pub open_in_text : OpenIn → List ℕ
@@ -48,18 +46,14 @@ open_in_text r = fields (codes "flags" ∷ codes "open_flags" ∷ []) (open_in r
 -- READ's and READDIR's body
 unfoldable pub read_in_text : ReadIn → List ℕ
 read_in_text r =
-    fields
-        (codes "fh" ∷ codes "offset" ∷ codes "size" ∷ codes "read_flags" ∷ codes "lock_owner" ∷ codes "flags"
-        ∷ [])
-        (read_in r)
+    let names = codes "fh" ∷ codes "offset" ∷ codes "size" ∷ codes "read_flags" ∷ codes "lock_owner" ∷ codes "flags" ∷ [] in
+    fields names (read_in r)
 
 -- the front of WRITE's body
 unfoldable pub write_in_text : WriteIn → List ℕ
 write_in_text r =
-    fields
-        (codes "fh" ∷ codes "offset" ∷ codes "size" ∷ codes "write_flags" ∷ codes "lock_owner" ∷ codes "flags"
-        ∷ [])
-        (write_in r)
+    let names = codes "fh" ∷ codes "offset" ∷ codes "size" ∷ codes "write_flags" ∷ codes "lock_owner" ∷ codes "flags" ∷ [] in
+    fields names (write_in r)
 
 -- RELEASE's and RELEASEDIR's body
 unfoldable pub release_in_text : ReleaseIn → List ℕ
@@ -76,9 +70,8 @@ flush_in_text r = fields (codes "fh" ∷ codes "lock_owner" ∷ []) (flush_in r)
 -- INIT's body, in both forms
 unfoldable pub init_in_text : InitIn → List ℕ
 init_in_text r =
-    fields
-        (codes "major" ∷ codes "minor" ∷ codes "max_readahead" ∷ codes "flags" ∷ codes "flags2" ∷ [])
-        (init_in r)
+    let names = codes "major" ∷ codes "minor" ∷ codes "max_readahead" ∷ codes "flags" ∷ codes "flags2" ∷ [] in
+    fields names (init_in r)
 
 -- the front of CREATE's body
 unfoldable pub create_in_text : CreateIn → List ℕ
@@ -95,9 +88,8 @@ fallocate_in_text r = fields (codes "fh" ∷ codes "offset" ∷ codes "length" �
 -- SETUPMAPPING's body
 unfoldable pub setup_in_text : SetupIn → List ℕ
 setup_in_text r =
-    fields
-        (codes "fh" ∷ codes "foffset" ∷ codes "len" ∷ codes "flags" ∷ codes "moffset" ∷ [])
-        (setup_in r)
+    let names = codes "fh" ∷ codes "foffset" ∷ codes "len" ∷ codes "flags" ∷ codes "moffset" ∷ [] in
+    fields names (setup_in r)
 
 -- an interval of REMOVEMAPPING
 unfoldable pub remove_one_text : RemoveOne → List ℕ
@@ -106,9 +98,9 @@ remove_one_text r = fields (codes "moffset" ∷ codes "len" ∷ []) (remove_one 
 -- the names of the attributes of a node
 abbrev pub attr_names : List (List ℕ)
 attr_names =
-    codes "ino" ∷ codes "size" ∷ codes "blocks" ∷ codes "atime" ∷ codes "mtime" ∷ codes "ctime"
-    ∷ codes "atimensec" ∷ codes "mtimensec" ∷ codes "ctimensec" ∷ codes "mode" ∷ codes "nlink" ∷ codes "uid"
-    ∷ codes "gid" ∷ codes "rdev" ∷ codes "blksize" ∷ codes "flags" ∷ []
+    codes "ino" ∷ codes "size" ∷ codes "blocks" ∷ codes "atime" ∷ codes "mtime" ∷ codes "ctime" ∷ codes "atimensec"
+    ∷ codes "mtimensec" ∷ codes "ctimensec" ∷ codes "mode" ∷ codes "nlink" ∷ codes "uid" ∷ codes "gid" ∷ codes "rdev"
+    ∷ codes "blksize" ∷ codes "flags" ∷ []
 
 -- the attributes of a node
 unfoldable pub attr_rec_text : AttrRec → List ℕ
@@ -121,10 +113,9 @@ attr_out_text r = fields (codes "attr_valid" ∷ codes "attr_valid_nsec" ∷ att
 -- the reply of LOOKUP, and the front of CREATE's
 unfoldable pub entry_out_text : EntryOut → List ℕ
 entry_out_text r =
-    fields
-        (codes "nodeid" ∷ codes "generation" ∷ codes "entry_valid" ∷ codes "attr_valid"
-        ∷ codes "entry_valid_nsec" ∷ codes "attr_valid_nsec" ∷ attr_names)
-        (entry_out r)
+    let names = codes "nodeid" ∷ codes "generation" ∷ codes "entry_valid" ∷ codes "attr_valid" ∷ codes "entry_valid_nsec"
+    ∷ codes "attr_valid_nsec" ∷ attr_names in
+    fields names (entry_out r)
 
 -- the reply of OPEN and OPENDIR, and the end of CREATE's
 unfoldable pub open_out_text : OpenOut → List ℕ
@@ -137,8 +128,7 @@ write_out_text r = fields (codes "size" ∷ []) (write_out r)
 -- the reply of INIT
 unfoldable pub init_out_text : InitOut → List ℕ
 init_out_text r =
-    fields
-        (codes "major" ∷ codes "minor" ∷ codes "max_readahead" ∷ codes "flags" ∷ codes "max_background"
-        ∷ codes "congestion_threshold" ∷ codes "max_write" ∷ codes "time_gran" ∷ codes "max_pages"
-        ∷ codes "map_alignment" ∷ codes "flags2" ∷ [])
-        (init_out r)
+    let names = codes "major" ∷ codes "minor" ∷ codes "max_readahead" ∷ codes "flags" ∷ codes "max_background"
+    ∷ codes "congestion_threshold" ∷ codes "max_write" ∷ codes "time_gran" ∷ codes "max_pages"
+    ∷ codes "map_alignment" ∷ codes "flags2" ∷ [] in
+    fields names (init_out r)

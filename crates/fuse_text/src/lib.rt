@@ -13,6 +13,8 @@ mod fields;
 mod records;
 mod replies;
 mod requests;
+#[cfg(test)]
+mod tests;
 
 pub use bad_requests::{line_of_bad, put_bad_line};
 pub use fields::{put_field, put_hex_field};
