@@ -24,7 +24,8 @@ pub fn line_of_bad(alloc: Global, bad: &BadRequest) -> Result<Blob, Memory>
 
 /// Appends the line of a bad request, as [`line_of_bad`] gives it.
 ///
-/// `Memory` is its only error; the buffer may end in a part of the line then.
+/// `Memory` is its only error. Nothing is promised of the buffer then: it may end in a part of the
+/// line.
 #[tactic(auto, unfolding(crate::specs::Lines::bad_line))]
 pub fn put_bad_line(out: &mut Vec<u8>, bad: &BadRequest) -> Result<(), Memory>
     requires { bad.now ≢ bad_requests.Memory }

@@ -20,7 +20,7 @@ pub(crate) use put_fields;
 
 /// Appends a field with a number: ` name=value`, in decimal.
 ///
-/// After `Memory` the buffer may end in a part of it.
+/// After `Memory` nothing is promised of the buffer: it may end in a part of the field.
 #[tactic(auto, unfolding(crate::specs::FieldText::field))]
 pub fn put_field(out: &mut Vec<u8>, name: &str, value: u64) -> Result<(), Memory>
     ensures { OnOk result (out.new.items ≡ out.old.items ++ field name.now value) }
@@ -35,7 +35,7 @@ pub fn put_field(out: &mut Vec<u8>, name: &str, value: u64) -> Result<(), Memory
 /// Appends a field with bytes: ` name=` and two hexadecimal digits a byte, in lower case, and
 /// ` name=` alone where there are no bytes.
 ///
-/// After `Memory` the buffer may end in a part of it.
+/// After `Memory` nothing is promised of the buffer: it may end in a part of the field.
 #[tactic(auto, unfolding(crate::specs::FieldText::hex_field))]
 pub fn put_hex_field(out: &mut Vec<u8>, name: &str, bytes: &[u8]) -> Result<(), Memory>
     ensures { OnOk result (out.new.items ≡ out.old.items ++ hex_field name.now bytes.now) }

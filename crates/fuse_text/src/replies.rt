@@ -29,7 +29,8 @@ pub fn line_of_reply(alloc: Global, reply: &Reply, unique: u64) -> Result<Blob, 
 
 /// Appends the line of a reply, as [`line_of_reply`] gives it.
 ///
-/// `Memory` is its only error; the buffer may end in a part of the line then.
+/// `Memory` is its only error. Nothing is promised of the buffer then: it may end in a part of the
+/// line.
 pub fn put_reply_line(out: &mut Vec<u8>, reply: &Reply, unique: u64) -> Result<(), Memory>
     ensures { OnOk result (out.new.items ≡ out.old.items ++ reply_line unique reply.now) }
 {

@@ -36,7 +36,8 @@ pub fn line_of(alloc: Global, message: &Message) -> Result<Blob, Memory>
 
 /// Appends the line of a request, as [`line_of`] gives it.
 ///
-/// `Memory` is its only error; the buffer may end in a part of the line then.
+/// `Memory` is its only error. Nothing is promised of the buffer then: it may end in a part of the
+/// line.
 pub fn put_line(out: &mut Vec<u8>, message: &Message) -> Result<(), Memory>
     ensures { OnOk result (out.new.items ≡ out.old.items ++ request_line message.now) }
 {
