@@ -1,0 +1,119 @@
+-- What is due where no whole frame follows.
+use Rattle.std.proofs.Common.{◌≡◌, ◌∙◌, ap, sym, subst, refl, ℕ, ◌+◌, ◌<◌, ◌≤◌, true, false, true≢false, List, [], ◌++◌, length, Option, Some, None, IfSome, arith, append-nil, append_assoc, take}
+use Rattle.std.proofs.lemmas.List.{nil_from_length, take-append-le}
+use Rattle.std.proofs.lemmas.Grind.{common_steps}
+use Rattle.std.proofs.KnownBytes.{Appends-nil}
+use Rattle.std.specs.Io.KnownBytes.{Appends, Consumes, IsAtEnd}
+use Rattle.dax_script.specs.Causes.{AppendsPart}
+use Rattle.dax_script.specs.declared.statuses.Status.{Status}
+use Rattle.daxwire.specs.declared.frames.Front.{Front}
+use Rattle.daxwire.specs.declared.frames.Front.TheVariants as fronts
+use Rattle.daxwire.specs.declared.frames.Reason.{Reason}
+use Rattle.daxwire.specs.declared.frames.End.{End}
+use Rattle.daxwire.specs.declared.frames.End.TheVariants as ends
+use Rattle.daxwire.specs.Frames.{Frame, Frames, limit, front_at, front_len, frames_from, is_decided, no_more}
+use Rattle.daxwire.specs.Courses.{PendingView, Answers, IsUndecided, Ends, IsCutOff, Writes, course_from, due, is_open, open_end, status_of}
+use Rattle.daxwire.proofs.CourseLaws.{told_before, told_each, ends_last}
+use Rattle.daxwire.proofs.StreamEnds.{frames_bad, frames_long, frames_ended}
+
+-- a part of a text is a part of a longer one
+part_further : (a b : Option (List ℕ)) (text more last whole : List ℕ) → whole ≡ (text ++ more) ++ last → AppendsPart a b text → AppendsPart a b whole
+part_further a b text more last whole e f = (
+  f.0,
+  grind (arith, common_steps, f.1, ap length e),
+  subst (Appends a b) (sym (ap (take f.0) (e ∙ append_assoc text more last) ∙ take-append-le f.0 text (more ++ last) (omega (arith, f.1)))) f.2,
+)
+
+pub told_nothing : (a : Option (List ℕ)) → IsAtEnd a → IfSome a (λ (more : List ℕ). more ≡ [])
+told_nothing None h = tt
+told_nothing (Some xs) h = h
+
+open_is_open : (f : Front) (at : ℕ) → is_decided f ≡ false → is_open (open_end f at) ≡ true
+unfolding is_decided is_open open_end
+open_is_open (fronts.Chain parts readable room) at h = absurd (true≢false h)
+open_is_open (fronts.Load moffset len) at h = absurd (true≢false h)
+open_is_open (fronts.Store moffset len) at h = absurd (true≢false h)
+open_is_open (fronts.Bad reason) at h = absurd (true≢false h)
+open_is_open fronts.Cut at h = refl
+open_is_open fronts.Nothing at h = refl
+
+-- no whole frame and no malformed one
+pub open_front : (f : Front) → front_len f ≡ 0 → ((r : Reason) → f ≡ fronts.Bad r → ⊥) → is_decided f ≡ false
+unfolding front_len is_decided
+open_front (fronts.Chain parts readable room) h k = absurd (omega (arith, h))
+open_front (fronts.Load moffset len) h k = absurd (omega (arith, h))
+open_front (fronts.Store moffset len) h k = absurd (omega (arith, h))
+open_front (fronts.Bad reason) h k = absurd (k reason refl)
+open_front fronts.Cut h k = refl
+open_front fronts.Nothing h k = refl
+
+-- the text so far is all of the course's, where no more frames follow
+last_frames : (says0 says : List Frame → List ℕ) (p0 p : PendingView) (text0 text : List ℕ) (e : End) → Answers says0 says p0 p text0 text → text0 ≡ [] → says [] ≡ [] → ((more : List ℕ) → frames_from p.at (p.rest ++ more) ≡ no_more e)
+    → (more : List ℕ) → ((course_from says0 p0).«end» more ≡ e) × ((course_from says0 p0).text more ≡ text)
+last_frames says0 says p0 p text0 text e a empty quiet last more = (
+  a.end_is more ∙ ap (λ (fs : Frames). fs.«end») (last more),
+  ap (λ (xs : List ℕ). xs ++ (course_from says0 p0).text more) (sym empty) ∙ a.text_is more ∙ ap (λ (fs : Frames). text ++ says fs.whole) (last more) ∙ ap (λ (xs : List ℕ). text ++ xs) quiet ∙ append-nil text,
+)
+
+-- at a malformed frame
+pub ends_bad : (says0 says : List Frame → List ℕ) (ending : End → List ℕ) (p0 p : PendingView) (text0 text : List ℕ) (left left' taken taken' : Option (List ℕ)) (reads reads' writes writes' : ℕ) (at : ℕ) (r : Reason) (status : Status) →
+    Answers says0 says p0 p text0 text → text0 ≡ [] → says [] ≡ [] → at ≡ p.at → fronts.Bad r ≡ front_at p.at p.rest → Writes (text ++ ending (ends.Malformed r at)) (status_of (ends.Malformed r at)) taken taken' writes writes' status
+    → Ends (course_from says0 p0) ending left left' taken taken' reads reads' writes writes' status
+ends_bad says0 says ending p0 p text0 text left left' taken taken' reads reads' writes writes' at r status a empty quiet place bad w =
+    let c = course_from says0 p0 in
+    let e = ends.Malformed r at in
+    ends_last c ending left left' taken taken' reads reads' writes writes' e text status
+    (told_each left (λ more. (c.«end» more ≡ e) × (c.text more ≡ text)) (last_frames says0 says p0 p text0 text e a empty quiet (λ more. frames_bad p.at p.rest more r bad ∙ ap (λ n. no_more (ends.Malformed r n)) (sym place))))
+    (λ h. absurd cc) w
+
+-- behind the limit
+pub ends_long : (says0 says : List Frame → List ℕ) (ending : End → List ℕ) (p0 p : PendingView) (text0 text : List ℕ) (left left' taken taken' : Option (List ℕ)) (reads reads' writes writes' : ℕ) (f : Front) (status : Status) →
+    Answers says0 says p0 p text0 text → text0 ≡ [] → says [] ≡ [] → p.at ≤ limit → limit < p.at + length p.rest → f ≡ front_at p.at p.rest → is_decided f ≡ false → Writes (text ++ ending ends.TooLong) (status_of ends.TooLong) taken taken' writes writes' status
+    → Ends (course_from says0 p0) ending left left' taken taken' reads reads' writes writes' status
+ends_long says0 says ending p0 p text0 text left left' taken taken' reads reads' writes writes' f status a empty quiet within long begun undecided w =
+    let c = course_from says0 p0 in
+    ends_last c ending left left' taken taken' reads reads' writes writes' ends.TooLong text status
+    (told_each left (λ more. (c.«end» more ≡ ends.TooLong) × (c.text more ≡ text)) (last_frames says0 says p0 p text0 text ends.TooLong a empty quiet (λ more. frames_long p.at p.rest more f within long begun undecided)))
+    (λ h. absurd cc) w
+
+-- a part of the text so far is a part of all that is due
+pub part_of_due : (says0 says : List Frame → List ℕ) (ending : End → List ℕ) (p0 p : PendingView) (text0 text : List ℕ) (left taken taken' : Option (List ℕ)) → Answers says0 says p0 p text0 text → text0 ≡ [] → AppendsPart taken taken' text
+    → IfSome left (λ more. AppendsPart taken taken' (due (course_from says0 p0) ending more))
+part_of_due says0 says ending p0 p text0 text left taken taken' a empty part =
+    told_each left (λ more. AppendsPart taken taken' (due (course_from says0 p0) ending more))
+    λ more. let c = course_from says0 p0 in
+    let whole : c.text more ≡ text ++ (course_from says p).text more = ap (λ (xs : List ℕ). xs ++ c.text more) (sym empty) ∙ a.text_is more in
+    part_further taken taken' text ((course_from says p).text more) (ending (c.«end» more)) (due c ending more) (ap (λ (xs : List ℕ). xs ++ ending (c.«end» more)) whole) part
+
+-- ---- at the end of what the source gives
+
+no_bytes : (p q : PendingView) (read : List ℕ) → q ≡ record p { rest = p.rest ++ read } → length q.rest ≡ length p.rest + 0 → read ≡ []
+no_bytes p q read e len = nil_from_length read (grind (arith, common_steps, ap (λ (v : PendingView). length v.rest) e, len))
+
+-- the stream ended
+pub ends_here : (says : List Frame → List ℕ) (ending : End → List ℕ) (p q : PendingView) (f : Front) (text read : List ℕ) (left left' taken taken' : Option (List ℕ)) (reads reads' writes writes' : ℕ) (at : ℕ) (e : End) (status : Status) →
+    IsUndecided p f → says [] ≡ [] → text ≡ [] → q ≡ record p { rest = p.rest ++ read } → Consumes left left' read → length q.rest ≡ length p.rest + 0 → IsAtEnd left' → at ≡ q.at
+    → e ≡ open_end f at → Writes (text ++ ending e) (status_of e) taken taken' writes writes' status → Ends (course_from says p) ending left left' taken taken' reads reads' writes writes' status
+ends_here says ending p q f text read left left' taken taken' reads reads' writes writes' at e status u quiet empty more consumed none end place is w =
+    let c = course_from says p in
+    let nothing = no_bytes p q read more none in
+    let place' : at ≡ p.at = place ∙ ap (λ (v : PendingView). v.at) more in
+    let last : (rest : List ℕ) → rest ≡ [] → frames_from p.at (p.rest ++ (read ++ rest)) ≡ no_more e =
+    λ rest k. ap (frames_from p.at) (ap (λ (xs : List ℕ). p.rest ++ (xs ++ rest)) nothing ∙ ap (λ (xs : List ℕ). p.rest ++ xs) k ∙ append-nil p.rest) ∙ frames_ended p f u ∙ ap (λ n. no_more (open_end f n)) (sym place') ∙ ap no_more (sym is) in
+    ends_last c ending left left' taken taken' reads reads' writes writes' e text status
+    (told_before left left' read (λ rest. (c.«end» rest ≡ e) × (c.text rest ≡ text)) (λ rest. rest ≡ []) consumed
+    (λ rest k. (ap (λ (fs : Frames). fs.«end») (last rest k), ap (λ (fs : Frames). says fs.whole) (last rest k) ∙ quiet ∙ sym empty)) (told_nothing left' end))
+    (λ h. end) w
+
+-- the source failed
+pub cut_off : (says : List Frame → List ℕ) (p q : PendingView) (f : Front) (read : List ℕ) (left left' taken : Option (List ℕ)) →
+    IsUndecided p f → says [] ≡ [] → q ≡ record p { rest = p.rest ++ read } → Consumes left left' read → q ≡ p → IsCutOff (course_from says p) left left' taken taken
+cut_off says p q f read left left' taken u quiet more consumed same =
+    let nothing = no_bytes p q read more (grind (arith, common_steps, ap (λ (v : PendingView). length v.rest) same)) in
+    let last : frames_from p.at (p.rest ++ read) ≡ no_more (open_end f p.at) = ap (frames_from p.at) (ap (λ (xs : List ℕ). p.rest ++ xs) nothing ∙ append-nil p.rest) ∙ frames_ended p f u in
+    record {
+      read = read;
+      consumed = consumed;
+      may_go_on = ap (λ (fs : Frames). is_open fs.«end») last ∙ open_is_open f p.at u.undecided;
+      appended = subst (Appends taken taken) (sym (ap (λ (fs : Frames). says fs.whole) last ∙ quiet)) (Appends-nil taken);
+    }

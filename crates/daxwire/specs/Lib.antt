@@ -1,0 +1,5 @@
+pub mod Courses
+pub mod Frames
+pub mod Headers
+pub mod Run
+pub mod Show

@@ -1,0 +1,241 @@
+ghost use Rattle.std.specs.Prelude.{◌≡◌, Option, ◌≤◌, ◌<◌, ◌+◌, ◌^◌, ◌++◌, ◌∷◌, ℕ, List, [], true, false, length, take, drop, Ok, IfOk, IfErr, OnOk, OnErr};
+ghost use Rattle.dax_script.specs.Causes.{Rose};
+ghost use Rattle.daxwire.specs.Frames.{Frame, front_at, front_len, is_longer, limit, IsBounded};
+ghost use Rattle.daxwire.specs.Courses.{PendingView, Answers, Ends, IsUndecided, Went, Writes, Took, chunk, course_from, open_end, status_of};
+
+use crate::frames::{End, Front, Reason, begins};
+use crate::pendings::{FillError, Pending};
+use dax_script::{Sink, Source, Status, write_all};
+use plain_file::Memory;
+use std::alloc::Global;
+
+// How many bytes of an input are looked at.
+const LIMIT: u64 = 268_435_456;
+
+/// What answers a stream frame by frame. It means what is written in answer to frames that come one
+/// after another, and what is written at the stream's end.
+pub trait Responder {
+    ghost use Rattle.std.specs.Prelude.{List, ℕ};
+    ghost use Rattle.daxwire.specs.Frames.{Frame};
+    ghost use Rattle.daxwire.specs.declared.frames.End.{End};
+
+    // What is written in answer to these frames.
+    ghost says: { Self → List Frame → List ℕ };
+
+    // What is written at the end.
+    ghost ending: { End → List ℕ };
+
+    /// Nothing is written in answer to no frames.
+    fn quiet(&self)
+        ensures { says self.now [] ≡ [] };
+
+    /// Adds the answer to a whole frame, which is what `front` says, to a text. After `Memory` nothing
+    /// is known of the text.
+    fn answer(
+        &mut self,
+        alloc: Global,
+        front: Front,
+        bytes: &[u8],
+        out: &mut Vec<u8>,
+    ) -> Result<(), Memory>
+        requires bounded { IsBounded front }
+        requires whole { front_len front ≡ length bytes.now }
+        ensures says { OnOk result ((more : List Frame) →
+            out.old.items ++ says self.old (record { front = front; bytes = bytes.now } ∷ more) ≡ out.new.items ++ says self.new more) };
+
+    /// Adds what is written at the end to a text. After `Memory` nothing is known of the text.
+    fn end(&self, end: End, out: &mut Vec<u8>) -> Result<(), Memory>
+        ensures says { OnOk result (out.new.items ≡ out.old.items ++ ending end) };
+}
+
+// Answers all whole frames of the pending bytes, up to the limit, and tells what the rest begins with.
+fn answer_whole<R: Responder>(
+    alloc: Global,
+    responder: &mut R,
+    pending: &mut Pending,
+    out: &mut Vec<u8>,
+) -> Result<Front, Memory>
+    requires within { pending.old.at ≤ limit }
+    requires small { pending.old.at + length pending.old.rest ≤ limit + chunk }
+    ensures answers { OnOk result (Answers (R.says responder.old) (R.says responder.new) pending.old pending.new out.old.items out.new.items) }
+    ensures front { IfOk result (λ f. f ≡ front_at pending.new.at pending.new.rest) }
+    ensures none { IfOk result (λ f. front_len f ≡ 0) }
+    ensures within { pending.new.at ≤ limit }
+    ensures place { pending.new.at + length pending.new.rest ≡ pending.old.at + length pending.old.rest }
+{
+    loop {
+        let rest = pending.rest();
+        let seen = ((LIMIT - pending.at()) as usize).min(rest.len());
+        let front = begins(rest.split_at(seen).0);
+        let len = front.len();
+        if len == 0 {
+            return Ok(front);
+        }
+        responder.answer(alloc, front, rest.split_at(len).0, out)?;
+        pending.advance(len);
+    }
+}
+
+impl Front {
+    // The end of a stream that ends at such a front.
+    #[tactic(auto, unfolding(crate::specs::Courses::open_end))]
+    fn open_end(self, at: u64) -> End
+        ensures { result ≡ open_end self at }
+    {
+        match self {
+            Front::Bad(reason) => End::Malformed { reason, at },
+            Front::Cut => End::Malformed {
+                reason: Reason::Cut,
+                at,
+            },
+            _ => End::Ended,
+        }
+    }
+}
+
+/// Writes a text and what is due at the end, and tells the status of that end, or a failure.
+#[tactic(auto, unfolding(crate::specs::Courses::status_of))]
+pub fn finish<R: Responder, K: Sink>(
+    responder: &R,
+    end: End,
+    out: &mut Vec<u8>,
+    sink: &mut K,
+) -> Status
+    ensures writes { Writes (out.old.items ++ R.ending end) (status_of end) (K.taken sink.old) (K.taken sink.new) (K.faults sink.old) (K.faults sink.new) result }
+    ensures later { K.faults sink.old ≤ K.faults sink.new }
+{
+    if responder.end(end, out).is_err() {
+        return Status::Memory;
+    }
+    if write_all(sink, out).is_err() {
+        return Status::WriteFault;
+    }
+    match end {
+        End::Ended => Status::Ok,
+        End::Malformed { .. } => Status::Refused,
+        End::TooLong => Status::TooLong,
+    }
+}
+
+// Answers and writes all whole frames of the pending bytes. The stream goes on then, or it ended with a
+// status: at a malformed frame, behind the limit, or with a failure.
+#[tactic(auto, unfolding(crate::specs::Frames::front_len, crate::specs::Frames::is_decided))]
+fn flush<R: Responder, K: Sink>(
+    alloc: Global,
+    responder: &mut R,
+    pending: &mut Pending,
+    out: &mut Vec<u8>,
+    sink: &mut K,
+) -> Result<Front, Status>
+    requires within { pending.old.at ≤ limit }
+    requires small { pending.old.at + length pending.old.rest ≤ limit + chunk }
+    requires empty { out.old.items ≡ [] }
+    ensures went { OnOk result ((left : Option (List ℕ)) → Went (course_from (R.says responder.old) pending.old) (course_from (R.says responder.new) pending.new) left left (K.taken sink.old) (K.taken sink.new)) }
+    ensures undecided { IfOk result (IsUndecided pending.new) }
+    ensures empty { OnOk result (out.new.items ≡ []) }
+    ensures ends { IfErr result (λ status. (left left' : Option (List ℕ)) (reads reads' : ℕ) → Ends (course_from (R.says responder.old) pending.old) R.ending left left' (K.taken sink.old) (K.taken sink.new) reads reads' (K.faults sink.old) (K.faults sink.new) status) }
+    ensures place { pending.new.at + length pending.new.rest ≡ pending.old.at + length pending.old.rest }
+    ensures later { K.faults sink.old ≤ K.faults sink.new }
+{
+    let Ok(front) = answer_whole(alloc, responder, pending, out) else {
+        return Err(Status::Memory);
+    };
+    responder.quiet();
+    let at = pending.at();
+    if let Front::Bad(reason) = front {
+        return Err(finish(responder, End::Malformed { reason, at }, out, sink));
+    }
+    if at + pending.rest().len() as u64 > LIMIT {
+        return Err(finish(responder, End::TooLong, out, sink));
+    }
+    match write_all(sink, out) {
+        Ok(()) => {
+            out.clear();
+            Ok(front)
+        }
+        Err(_) => Err(Status::WriteFault),
+    }
+}
+
+// Reads on, where the pending bytes are a part of a frame or none. The stream goes on then, or it ended
+// with a status: at its end, or with a failure.
+fn read_on<R: Responder, S: Source, K: Sink>(
+    responder: &R,
+    front: Front,
+    pending: &mut Pending,
+    out: &mut Vec<u8>,
+    source: &mut S,
+    sink: &mut K,
+) -> Result<(), Status>
+    requires undecided { IsUndecided pending.old front }
+    requires empty { out.old.items ≡ [] }
+    ensures went { OnOk result (Went (course_from (R.says responder.now) pending.old) (course_from (R.says responder.now) pending.new) (S.left source.old) (S.left source.new) (K.taken sink.old) (K.taken sink.new)) }
+    ensures more { OnOk result (length pending.old.rest < length pending.new.rest) }
+    ensures at { pending.new.at ≡ pending.old.at }
+    ensures empty { OnOk result (out.new.items ≡ []) }
+    ensures ends { IfErr result (Ends (course_from (R.says responder.now) pending.old) R.ending (S.left source.old) (S.left source.new) (K.taken sink.old) (K.taken sink.new) (S.faults source.old) (S.faults source.new) (K.faults sink.old) (K.faults sink.new)) }
+    ensures took { Took pending.old pending.new (S.left source.old) (S.left source.new) }
+    ensures later_reads { S.faults source.old ≤ S.faults source.new }
+    ensures later_writes { K.faults sink.old ≤ K.faults sink.new }
+{
+    responder.quiet();
+    match pending.fill(source) {
+        Ok(0) => Err(finish(responder, front.open_end(pending.at()), out, sink)),
+        Ok(_) => Ok(()),
+        Err(FillError::Memory) => Err(Status::Memory),
+        Err(FillError::Failed) => Err(Status::ReadFault),
+    }
+}
+
+// Answers what is pending, and reads on.
+fn turn<R: Responder, S: Source, K: Sink>(
+    alloc: Global,
+    responder: &mut R,
+    pending: &mut Pending,
+    out: &mut Vec<u8>,
+    source: &mut S,
+    sink: &mut K,
+) -> Result<(), Status>
+    requires within { pending.old.at ≤ limit }
+    requires small { pending.old.at + length pending.old.rest ≤ limit + chunk }
+    requires empty { out.old.items ≡ [] }
+    ensures went { OnOk result (Went (course_from (R.says responder.old) pending.old) (course_from (R.says responder.new) pending.new) (S.left source.old) (S.left source.new) (K.taken sink.old) (K.taken sink.new)) }
+    ensures within { OnOk result (pending.new.at ≤ limit) }
+    ensures more { OnOk result (pending.old.at + length pending.old.rest < pending.new.at + length pending.new.rest) }
+    ensures empty { OnOk result (out.new.items ≡ []) }
+    ensures ends { IfErr result (Ends (course_from (R.says responder.old) pending.old) R.ending (S.left source.old) (S.left source.new) (K.taken sink.old) (K.taken sink.new) (S.faults source.old) (S.faults source.new) (K.faults sink.old) (K.faults sink.new)) }
+    ensures took { Took pending.old pending.new (S.left source.old) (S.left source.new) }
+    ensures later_reads { S.faults source.old ≤ S.faults source.new }
+    ensures later_writes { K.faults sink.old ≤ K.faults sink.new }
+{
+    match flush(alloc, responder, pending, out, sink) {
+        Ok(front) => read_on(responder, front, pending, out, source, sink),
+        Err(status) => Err(status),
+    }
+}
+
+/// Answers a stream to its end, from the pending bytes on, which begin at a frame. The answers to
+/// the whole frames that were read are written before more is read.
+///
+/// The status is that of the stream's end, or a failure: `Ends` says what was written.
+pub fn respond<R: Responder, S: Source, K: Sink>(
+    alloc: Global,
+    responder: &mut R,
+    pending: &mut Pending,
+    source: &mut S,
+    sink: &mut K,
+) -> Status
+    requires within { pending.old.at ≤ limit }
+    requires small { pending.old.at + length pending.old.rest ≤ limit + chunk }
+    ensures ends { Ends (course_from (R.says responder.old) pending.old) R.ending (S.left source.old) (S.left source.new) (K.taken sink.old) (K.taken sink.new) (S.faults source.old) (S.faults source.new) (K.faults sink.old) (K.faults sink.new) result }
+    ensures took { Took pending.old pending.new (S.left source.old) (S.left source.new) }
+    ensures later_reads { S.faults source.old ≤ S.faults source.new }
+    ensures later_writes { K.faults sink.old ≤ K.faults sink.new }
+{
+    let mut out = Vec::new(alloc);
+    loop {
+        if let Err(status) = turn(alloc, responder, pending, &mut out, source, sink) {
+            return status;
+        }
+    }
+}
