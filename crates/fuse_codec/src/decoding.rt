@@ -47,7 +47,7 @@ fn write_of(alloc: Global, bytes: &[u8]) -> Result<Option<Request>, Memory>
     let Some(head) = WriteIn::read(front) else {
         return Ok(None);
     };
-    if head.size as usize != rest.len() || rest.len() > MAX_TRANSFER {
+    if head.size as usize != rest.len() || rest.len() > MAX_TRANSFER as usize {
         return Ok(None);
     }
     let bytes = Blob::copy_of(alloc, rest)?;

@@ -97,9 +97,11 @@ fn is_bounded(body: &Request) -> bool
             !name.as_slice().is_empty()
         }
         Request::Write { head, bytes } => {
-            head.size as usize == bytes.len() && bytes.len() <= MAX_TRANSFER
+            head.size as usize == bytes.len() && bytes.len() <= MAX_TRANSFER as usize
         }
-        Request::BatchForget { ones } => { ones.len() <= (MAX_PART - 48) / ForgetOne::SIZE }
+        Request::BatchForget { ones } => {
+            ones.len() <= (MAX_PART as usize - 48) / ForgetOne::SIZE
+        }
         Request::Remove { ones } => ones.len() <= MAX_REMOVED as usize,
         _ => true,
     }

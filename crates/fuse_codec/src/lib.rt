@@ -10,6 +10,8 @@ mod limits;
 mod messages;
 mod opcodes;
 mod replies;
+#[cfg(test)]
+mod tests;
 
 pub use decoding::decode_request;
 pub use encoding::{encode_request, put_request};
