@@ -10,8 +10,10 @@ use crate::limits::{MAX_PART, MAX_REMOVED, MAX_TRANSFER};
 use crate::messages::{Message, Request};
 use fuse_wire::{ForgetIn, ForgetOne, InitIn, RemoveOne};
 
-// The functions that end in `fit` do nothing. They say that the numbers of what they are given are
-// within their fields' widths, which a proof knows of a number once it was handed over by value.
+// The functions that end in `fit` or `fits` do nothing but look at each number, which they hand over by
+// value. That is how a proof knows that it is within its field's width.
+
+fn look(_: &[u8]) {}
 
 fn forgets_fit(ones: &[ForgetOne])
     ensures { FitsParts (flat_map forget_one ones.now) }
@@ -36,46 +38,22 @@ fn body_fits(body: &Request)
 {
     match body {
         Request::Lookup { .. } | Request::Unlink { .. } | Request::Destroy => {}
-        Request::Forget { nlookup } => {
-            ForgetIn { nlookup: *nlookup }.put();
-        }
-        Request::Getattr(r) => {
-            r.put();
-        }
-        Request::Setattr(r) => {
-            r.put();
-        }
-        Request::OpenFile(r) | Request::OpenDir(r) => {
-            r.put();
-        }
-        Request::Read(r) | Request::ReadDir(r) => {
-            r.put();
-        }
-        Request::Write { head, .. } => {
-            head.put();
-        }
-        Request::Release(r) | Request::ReleaseDir(r) => {
-            r.put();
-        }
-        Request::Fsync(r) => {
-            r.put();
-        }
-        Request::Flush(r) => {
-            r.put();
-        }
+        Request::Forget { nlookup } => look(&ForgetIn { nlookup: *nlookup }.put()),
+        Request::Getattr(r) => look(&r.put()),
+        Request::Setattr(r) => look(&r.put()),
+        Request::OpenFile(r) | Request::OpenDir(r) => look(&r.put()),
+        Request::Read(r) | Request::ReadDir(r) => look(&r.put()),
+        Request::Write { head, .. } => look(&head.put()),
+        Request::Release(r) | Request::ReleaseDir(r) => look(&r.put()),
+        Request::Fsync(r) => look(&r.put()),
+        Request::Flush(r) => look(&r.put()),
         Request::Init(r) => {
             r.put(&mut [0; InitIn::SIZE]);
         }
-        Request::Create { head, .. } => {
-            head.put();
-        }
+        Request::Create { head, .. } => look(&head.put()),
         Request::BatchForget { ones } => forgets_fit(ones.as_slice()),
-        Request::Fallocate(r) => {
-            r.put();
-        }
-        Request::Setup(r) => {
-            r.put();
-        }
+        Request::Fallocate(r) => look(&r.put()),
+        Request::Setup(r) => look(&r.put()),
         Request::Remove { ones } => removes_fit(ones.as_slice()),
     }
 }

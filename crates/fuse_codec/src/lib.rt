@@ -1,4 +1,14 @@
-//! FUSE requests and replies as bytes, whole: what a message is, and what bytes spell it.
+//! FUSE requests and replies as bytes, whole, after Linux uapi `fuse.h`, protocol 7.38.
+//!
+//! [`Gather`] puts a part of a chain together from its pieces. [`decode_request`] takes a [`Message`]
+//! from the bytes, or says what is wrong with them first; [`encode_request`] and [`put_request`]
+//! spell one that [`Message::fits`] is true of. Padding is ignored when read, and 0 when written.
+//!
+//! What bytes a request has stands in `specs/Grammar`, as a relation: `Spells` has one case for each
+//! operation, and puts the parts of `fuse_wire`'s records one after another. `specs/Opcodes` has the
+//! table of operations. `specs/Reading` says the same by offsets, with the first reason against bytes
+//! that are no request. `message_found` and `message_again` of `proofs/RequestLaws` say that both are
+//! one: bytes of at most [`MAX_PART`] are read as a message exactly where they spell it.
 #![tactic(auto)]
 
 mod decoding;
