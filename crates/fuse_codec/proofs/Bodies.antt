@@ -1,5 +1,5 @@
 -- Bodies: what is read is spelled, and what is spelled is read.
-use Rattle.std.proofs.Common.{◌≡◌, ℕ, ◌+◌, ◌-◌, ◌*◌, ◌≤◌, Bool, true, false, cond, eqb, leb, ltb, ◌&&◌, List, [], ◌∷◌, ◌++◌, length, take, drop, Option, Some, None, refl, sym, subst, ◌∙◌, ap, arith}
+use Rattle.std.proofs.Common.{◌≡◌, ℕ, ◌+◌, ◌-◌, ◌*◌, ◌≤◌, true, false, cond, eqb, leb, ltb, ◌&&◌, List, [], ◌∷◌, ◌++◌, length, take, drop, Option, Some, None, refl, sym, subst, ◌∙◌, ap, arith}
 use Rattle.std.specs.Prelude.{option_map}
 use Rattle.std.specs.List.{flat_map}
 use Rattle.std.specs.Str.{bytes_eq}
@@ -8,12 +8,11 @@ use Rattle.std.proofs.lemmas.List.{length-take, length-drop, length-append, take
 use Rattle.std.proofs.lemmas.Slice.Eq.{bytes_eq-Decides}
 use Rattle.plain_file.specs.Names.{is_name, checked_name}
 use Rattle.fuse_wire.specs.Layout.{Part, U32, Unused, Bytes, AreSpelled}
-use Rattle.fuse_wire.specs.Records.{u32_at, read_in, read_in_of, write_in, write_in_at, write_in_of}
-use Rattle.fuse_wire.specs.Attributes.{getattr_in, getattr_in_of, setattr_in, setattr_in_of}
-use Rattle.fuse_wire.specs.Opens.{open_in, open_in_of, create_in, create_in_at, create_in_of, release_in, release_in_of, flush_in, flush_in_of, fsync_in, fsync_in_of, fallocate_in, fallocate_in_of}
-use Rattle.fuse_wire.specs.Inits.{init_in, init_in_of}
-use Rattle.fuse_wire.specs.Forgets.{forget_in, forget_in_of, forget_one, forget_one_at, forget_one_of}
-use Rattle.fuse_wire.specs.Mappings.{setup_in, setup_in_of, remove_one, remove_one_at, remove_one_of}
+use Rattle.fuse_wire.specs.Records.{u32_at, write_in, write_in_at, write_in_of}
+use Rattle.fuse_wire.specs.Opens.{create_in, create_in_at, create_in_of}
+use Rattle.fuse_wire.specs.Inits.{init_in_of}
+use Rattle.fuse_wire.specs.Forgets.{forget_one, forget_one_at, forget_one_of}
+use Rattle.fuse_wire.specs.Mappings.{remove_one, remove_one_at, remove_one_of}
 use Rattle.fuse_wire.specs.declared.records.WriteIn.{WriteIn}
 use Rattle.fuse_wire.specs.declared.opens.CreateIn.{CreateIn}
 use Rattle.fuse_wire.specs.declared.forgets.ForgetOne.{ForgetOne}

@@ -1,10 +1,10 @@
 -- The spelling of a request with zeros where any bytes may stand.
-use Rattle.std.proofs.Common.{◌≡◌, ℕ, ◌+◌, ◌*◌, ◌<◌, ◌≤◌, ◌^◌, true, List, [], ◌∷◌, ◌++◌, length, Option, Some, None, refl, sym, subst, ◌∙◌, ap, arith, ltb, not, eqb}
-use Rattle.std.specs.List.{flat_map, list_all}
-use Rattle.std.proofs.lemmas.Bool.{leb-true, ltb-false, not-true, and_parts}
+use Rattle.std.proofs.Common.{◌≡◌, ℕ, ◌+◌, ◌*◌, ◌<◌, ◌≤◌, ◌^◌, true, List, [], ◌∷◌, ◌++◌, length, Option, Some, None, refl, sym, subst, ◌∙◌, ap, arith, eqb}
+use Rattle.std.specs.List.{flat_map}
+use Rattle.std.proofs.lemmas.Bool.{leb-true, ltb-false, and_parts}
 use Rattle.std.proofs.lemmas.List.{append-nil, append_assoc, length-append}
-use Rattle.plain_file.specs.Names.{is_name, is_name_byte}
-use Rattle.fuse_wire.specs.Layout.{Part, Bytes, U32, Unused, AreSpelled, FitsParts, clean, parts_len}
+use Rattle.plain_file.specs.Names.{is_name}
+use Rattle.fuse_wire.specs.Layout.{Bytes, AreSpelled, FitsParts, clean, parts_len}
 use Rattle.fuse_wire.specs.Records.{in_header, write_in}
 use Rattle.fuse_wire.specs.Opens.{create_in}
 use Rattle.fuse_wire.specs.Inits.{init_in, init_more}

@@ -1,5 +1,5 @@
 use Rattle.std.proofs.Common.{rules, ◌≡◌}
-use Rattle.fuse_codec.specs.Grammar.{clean_message, Spells}
+use Rattle.fuse_codec.specs.Grammar.{clean_message}
 use Rattle.fuse_codec.proofs.RequestLaws.{message_again}
 use Rattle.fuse_codec.proofs.encoding.encode_request.Goals as goal
 
