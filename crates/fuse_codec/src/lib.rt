@@ -22,6 +22,7 @@ mod opcodes;
 mod replies;
 #[cfg(test)]
 mod tests;
+mod reply_decoding;
 
 pub use decoding::decode_request;
 pub use encoding::{encode_request, put_request};
@@ -31,3 +32,4 @@ pub use limits::{MAX_PART, MAX_REMOVED, MAX_TRANSFER};
 pub use messages::{Head, Message, Request};
 pub use opcodes::{Opcode, ReplyForm};
 pub use replies::{Dirent, Reply};
+pub use reply_decoding::{answer_form, decode_reply};
