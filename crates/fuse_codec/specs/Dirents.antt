@@ -16,9 +16,13 @@ filler n = (8 - n % 8) % 8
 unfoldable pub entry_len : ℕ → ℕ
 entry_len n = 24 + n + filler n
 
+-- the parts before an entry's name
+unfoldable pub dirent_head : Dirent → List Part
+dirent_head d = U64 d.ino ∷ U64 d.off ∷ U32 (length d.name) ∷ U32 d.kind ∷ []
+
 -- the parts of an entry
 unfoldable pub dirent_parts : Dirent → List Part
-dirent_parts d = U64 d.ino ∷ U64 d.off ∷ U32 (length d.name) ∷ U32 d.kind ∷ Bytes d.name ∷ Unused (filler (length d.name)) ∷ []
+dirent_parts d = dirent_head d ++ Bytes d.name ∷ Unused (filler (length d.name)) ∷ []
 
 -- bytes that spell an entry, filler and all
 pub record SpellsDirent (d : Dirent) (bytes : List ℕ) : Type 0 where
@@ -30,7 +34,11 @@ unfoldable pub SpellDirents : List Dirent → List ℕ → Type 0
 SpellDirents [] bytes = bytes ≡ []
 SpellDirents (d ∷ ds) bytes = (front : List ℕ) × (rest : List ℕ) × SpellsDirent d front × (bytes ≡ front ++ rest) × SpellDirents ds rest
 
--- Entries are whole up to an offset, and at it, where more bytes follow, no whole entry begins.
+-- no whole entry is at the front of these bytes
+abbrev pub HasNoEntry : List ℕ → Type 0
+HasNoEntry bytes = (d : Dirent) (entry after : List ℕ) → bytes ≡ entry ++ after → SpellsDirent d entry → ⊥
+
+-- Entries are whole up to an offset, at which more bytes are, but no whole entry.
 pub record IsCutAt (at : ℕ) (bytes : List ℕ) : Type 0 where
   pub ones : List Dirent
   pub front : List ℕ
@@ -39,7 +47,12 @@ pub record IsCutAt (at : ℕ) (bytes : List ℕ) : Type 0 where
   pub before : SpellDirents ones front
   pub place : length front ≡ at
   pub more : 0 < length rest
-  pub no_entry : (d : Dirent) (entry after : List ℕ) → rest ≡ entry ++ after → SpellsDirent d entry → ⊥
+  pub no_entry : HasNoEntry rest
+
+-- What a function returned is the entries, or the offset of the first that isn't whole, unless memory ran out.
+abbrev pub GivesDirents : Result (List Dirent) BadDirents → Result (List Dirent) BadDirents → Type 0
+GivesDirents (Err bad_dirents.Memory) read = Unit {0}
+GivesDirents result read = result ≡ read
 
 -- the spelling with zeros where any bytes may stand
 abbrev pub clean_dirents : List Dirent → List ℕ
@@ -56,18 +69,18 @@ fitting size (d ∷ ds) = if nat_le (entry_len (length d.name)) size then d ∷ 
 
 -- ---- reading at offsets
 
--- an entry with this name
+-- the entry of these 24 bytes and this name
 abbrev pub dirent_with : List ℕ → List ℕ → Dirent
-dirent_with bytes name = record { ino = u64_at bytes 0; off = u64_at bytes 8; kind = u32_at bytes 20; name = name }
+dirent_with head name = record { ino = u64_at head 0; off = u64_at head 8; kind = u32_at head 20; name = name }
 
--- the whole entry at the front of bytes, whose name has so many bytes
-unfoldable pub dirent_of : ℕ → List ℕ → Option Dirent
-dirent_of namelen bytes =
-    if nat_lt (length bytes) (entry_len namelen) then None
-    else option_map (dirent_with (take 24 bytes)) (checked_name (take namelen (drop 24 bytes)))
+-- the entry of these 24 bytes, where a name of so many bytes and its filler follow
+unfoldable pub dirent_after : List ℕ → ℕ → List ℕ → Option Dirent
+dirent_after head namelen rest =
+    if nat_lt (length rest) (namelen + filler namelen) then None
+    else option_map (dirent_with head) (checked_name (take namelen rest))
 
 -- the whole entry at the front of bytes, where there is one
 unfoldable pub first_dirent : List ℕ → Option Dirent
 first_dirent bytes =
     if nat_lt (length bytes) 24 then None
-    else dirent_of (u32_at bytes 16) bytes
+    else dirent_after (take 24 bytes) (u32_at (take 24 bytes) 16) (drop 24 bytes)

@@ -17,19 +17,27 @@ mod errors;
 mod fitting;
 mod gather;
 mod limits;
+mod dirents;
+mod errors;
+mod laws;
 mod messages;
 mod opcodes;
 mod replies;
 #[cfg(test)]
 mod tests;
 mod reply_decoding;
+mod reply_encoding;
 
 pub use decoding::decode_request;
 pub use encoding::{encode_request, put_request};
 pub use errors::{BadDirents, BadReply, BadRequest};
 pub use gather::Gather;
 pub use limits::{MAX_PART, MAX_REMOVED, MAX_TRANSFER};
+pub use dirents::{put_dirent, put_dirents, read_dirents};
+pub use errors::{BadDirents, BadReply, BadRequest};
+pub use laws::{fitting_is_the_longest_prefix, no_prefix_replies, no_prefix_requests};
 pub use messages::{Head, Message, Request};
 pub use opcodes::{Opcode, ReplyForm};
 pub use replies::{Dirent, Reply};
 pub use reply_decoding::{answer_form, decode_reply};
+pub use reply_encoding::{encode_reply, put_reply};

@@ -2,7 +2,7 @@ use fuse_wire::{AttrOut, EntryOut, InitOut, OpenOut, WriteOut};
 use plain_file::{Blob, Name};
 
 /// What a request is answered.
-#[derive(Debug, Drop)]
+#[derive(Debug, Drop, PartialEq, Eq)]
 pub enum Reply {
     /// The request was refused.
     Error {
@@ -35,7 +35,7 @@ pub enum Reply {
 /// An entry of a directory: `struct fuse_dirent` of Linux uapi `fuse.h`, protocol 7.38, with its name.
 ///
 /// On the wire it has 24 bytes and the name, then bytes 0 up to the next multiple of 8.
-#[derive(Debug, Drop)]
+#[derive(Debug, Drop, PartialEq, Eq)]
 pub struct Dirent {
     /// The node of the entry.
     pub ino: u64,
