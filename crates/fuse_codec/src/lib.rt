@@ -27,6 +27,8 @@ mod replies;
 mod tests;
 mod reply_decoding;
 mod reply_encoding;
+#[cfg(test)]
+mod reply_tests;
 
 pub use decoding::decode_request;
 pub use encoding::{encode_request, put_request};

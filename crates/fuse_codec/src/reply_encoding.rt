@@ -25,10 +25,11 @@ impl Reply {
     }
 
     /// How many bytes the reply takes with its header, where it [`fits`](Reply::fits).
-    #[tactic(auto, using(crate::proofs::CleanReplies::body_sizes), unfolding(crate::specs::Replies::reply_parts, crate::specs::Replies::is_reply))]
+    #[tactic(auto, using(crate::proofs::CleanReplies::body_sizes, crate::proofs::CleanReplies::reply_bound), unfolding(crate::specs::Replies::reply_parts, crate::specs::Replies::is_reply))]
     pub fn len(&self) -> usize
         requires { is_reply self.now ≡ true }
-        ensures { result ≡ reply_len self.now }
+        ensures value { result ≡ reply_len self.now }
+        ensures bound { result ≤ 1048592 }
     {
         match self {
             Reply::Error { .. } | Reply::Done => 16,
