@@ -1,5 +1,5 @@
 -- Clean spellings of replies.
-use Rattle.std.proofs.Common.{◌≡◌, ℕ, ◌+◌, ◌≤◌, true, List, [], ◌∷◌, ◌++◌, length, refl, sym, subst, ◌∙◌, ap, arith}
+use Rattle.std.proofs.Common.{◌≡◌, ℕ, ◌≤◌, true, List, [], ◌∷◌, ◌++◌, length, refl, sym, subst, ◌∙◌, ap, arith}
 use Rattle.std.proofs.lemmas.Bool.{leb-true}
 use Rattle.std.proofs.lemmas.List.{append-nil, append_assoc, length-append}
 use Rattle.fuse_wire.specs.Layout.{Bytes, AreSpelled, FitsParts, clean, parts_len}
@@ -21,7 +21,7 @@ use Rattle.fuse_codec.specs.declared.opcodes.ReplyForm.{ReplyForm}
 use Rattle.fuse_codec.specs.declared.replies.Reply.{Reply}
 use Rattle.fuse_codec.specs.declared.replies.Reply.TheVariants as replies
 use Rattle.fuse_codec.specs.Grammar.{max_transfer}
-use Rattle.fuse_codec.specs.Replies.{reply_parts, error_of, is_reply, HasForm, reply_header, SpellsReply, reply_len, clean_reply}
+use Rattle.fuse_codec.specs.Replies.{reply_parts, is_reply, HasForm, reply_header, SpellsReply, reply_len, clean_reply}
 
 -- ---- how many bytes the records take
 

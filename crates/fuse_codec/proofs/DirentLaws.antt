@@ -1,17 +1,15 @@
 -- Entries of a directory: what is read is spelled, and what is spelled is read.
-use Rattle.std.proofs.Common.{◌≡◌, ℕ, ◌+◌, ◌-◌, ◌<◌, ◌≤◌, Bool, true, false, cond, ltb, List, [], ◌∷◌, ◌++◌, length, take, drop, Option, Some, None, Result, Ok, Err, refl, sym, subst, ◌∙◌, ap, append_assoc, replicate, arith}
+use Rattle.std.proofs.Common.{◌≡◌, ℕ, ◌+◌, ◌-◌, ◌<◌, ◌≤◌, true, false, ltb, List, [], ◌∷◌, ◌++◌, length, take, drop, Option, Some, None, refl, sym, subst, ◌∙◌, ap, append_assoc, replicate, arith}
 use Rattle.std.specs.Prelude.{option_map}
 use Rattle.std.proofs.lemmas.Bool.{ltb-false, le-ltb}
-use Rattle.std.proofs.lemmas.List.{append-nil, append_cancel_left, nil_from_length, length-append, length-take, length-drop, take-append-drop, take_at, drop_at}
+use Rattle.std.proofs.lemmas.List.{append-nil, append_cancel_left, length-append, length-take, length-drop, take-append-drop, take_at, drop_at}
 use Rattle.plain_file.specs.Names.{is_name, checked_name}
 use Rattle.fuse_wire.specs.Layout.{Bytes, Unused, AreSpelled, FitsParts, clean}
-use Rattle.fuse_wire.specs.Records.{u32_at, u64_at}
+use Rattle.fuse_wire.specs.Records.{u32_at}
 use Rattle.fuse_wire.proofs.Laws.{IsBytes, IsBytes-take, IsBytes-drop, AreAt, spelled, placed, spelled_len, joined, split, one_text, one_text_is, clean_append, clean_spells, FitsParts_append}
 use Rattle.fuse_wire.proofs.RecordLaws.{cond_some}
 use Rattle.fuse_codec.specs.declared.replies.Dirent.{Dirent}
-use Rattle.fuse_codec.specs.declared.errors.BadDirents.{BadDirents}
-use Rattle.fuse_codec.specs.declared.errors.BadDirents.TheVariants as bad_dirents
-use Rattle.fuse_codec.specs.Dirents.{filler, entry_len, dirent_head, dirent_parts, SpellsDirent, SpellDirents, HasNoEntry, IsCutAt, GivesDirents, dirent_with, dirent_after, first_dirent}
+use Rattle.fuse_codec.specs.Dirents.{filler, entry_len, dirent_head, dirent_parts, SpellsDirent, SpellDirents, HasNoEntry, IsCutAt, dirent_with, dirent_after, first_dirent}
 use Rattle.fuse_codec.proofs.Steps.{mapped_some, went_on}
 
 -- ---- one entry

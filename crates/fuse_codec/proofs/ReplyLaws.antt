@@ -1,11 +1,11 @@
 -- Replies: what is read is spelled, and what is spelled is read.
-use Rattle.std.proofs.Common.{◌≡◌, ℕ, ◌+◌, ◌≤◌, Bool, true, false, not, cond, eqb, leb, ltb, ◌&&◌, ◌||◌, List, [], ◌∷◌, ◌++◌, length, take, drop, Option, Some, None, Result, Ok, Err, refl, sym, subst, ◌∙◌, ap, arith, inl, inr, ◌⊎◌}
-use Rattle.std.specs.Prelude.{ℤ, pos, neg_ℤ, int_lt, int_le, IfOk, option_map, IsOk}
+use Rattle.std.proofs.Common.{◌≡◌, ℕ, ◌≤◌, Bool, true, false, not, cond, eqb, leb, ltb, ◌||◌, List, [], ◌++◌, length, take, drop, Option, Some, None, Result, Ok, Err, refl, sym, subst, ◌∙◌, ap, arith, inl, inr, ◌⊎◌}
+use Rattle.std.specs.Prelude.{ℤ, pos, neg_ℤ, int_lt, IfOk, option_map}
 use Rattle.std.proofs.Math.IntN.{neg_ℤ-neg_ℤ}
 use Rattle.std.proofs.lemmas.Int.{ints}
 use Rattle.std.proofs.lemmas.Bool.{eq-eqb, eqb-true, not-false, ltb-false, le-ltb}
 use Rattle.std.proofs.lemmas.List.{length-take, length-append, take-append-drop, take_at, drop_at, nil_from_length}
-use Rattle.fuse_wire.specs.Layout.{Part, Bytes, AreSpelled}
+use Rattle.fuse_wire.specs.Layout.{Part, AreSpelled}
 use Rattle.fuse_wire.specs.Records.{out_header, out_header_at, out_header_of, write_out, write_out_of}
 use Rattle.fuse_wire.specs.Attributes.{entry_out, entry_out_at, entry_out_of, attr_out, attr_out_of}
 use Rattle.fuse_wire.specs.Opens.{open_out, open_out_of}

@@ -1,6 +1,6 @@
 -- Entries of a directory: struct fuse_dirent of Linux uapi fuse.h, protocol 7.38, with its name and what fills it up to a multiple of 8.
-use Rattle.std.specs.Prelude.{◌≡◌, ℕ, ◌+◌, ◌-◌, ◌*◌, ◌/◌, ◌%◌, ◌<◌, ◌≤◌, Bool, true, nat_lt, nat_le, List, [], ◌∷◌, ◌++◌, length, take, drop, Option, Some, None, option_map, Result, Ok, Err, if◌then◌else◌}
-use Rattle.std.specs.List.{flat_map, list_all}
+use Rattle.std.specs.Prelude.{◌≡◌, ℕ, ◌+◌, ◌-◌, ◌%◌, ◌<◌, true, nat_lt, nat_le, List, [], ◌∷◌, ◌++◌, length, take, drop, Option, None, option_map, Result, Err, if◌then◌else◌}
+use Rattle.std.specs.List.{flat_map}
 use Rattle.plain_file.specs.Names.{is_name, checked_name}
 use Rattle.fuse_wire.specs.Layout.{Part, U32, U64, Unused, Bytes, AreSpelled, clean, parts_len}
 use Rattle.fuse_wire.specs.Records.{u32_at, u64_at}

@@ -70,11 +70,11 @@ fn first_dirent(alloc: Global, bytes: &[u8]) -> Result<Option<Dirent>, Memory>
     if bytes.len() < HEAD {
         return Ok(None);
     }
-    let (head, rest) = bytes.split_at(24);
+    let (head, rest) = bytes.split_at(HEAD);
     dirent_after(alloc, head, u32_at(head, 16) as usize, rest)
 }
 
-/// The entries that the bytes spell, one after the other: what READDIR answers, as Linux reads it.
+/// The entries that the bytes spell, one after the other, as READDIR answers them.
 ///
 /// An entry is whole where its 24 bytes, its name of 1 to 255 bytes without 0 and `/`, and any bytes
 /// up to the next multiple of 8 are there. `Cut` comes exactly where the bytes aren't whole entries,
@@ -100,11 +100,11 @@ pub fn read_dirents(alloc: Global, bytes: &[u8]) -> Result<List<Dirent>, BadDire
 }
 
 #[tactic(auto, unfolding(crate::specs::Dirents::dirent_head, fuse_wire::specs::Layout::FitsParts))]
-fn head_of(one: &Dirent) -> [u8; 24]
+fn head_of(one: &Dirent) -> [u8; HEAD]
     ensures clean { result ≡ clean (dirent_head one.now) }
     ensures fits { FitsParts (dirent_head one.now) }
 {
-    let mut out = [0; 24];
+    let mut out = [0; HEAD];
     out[0..8].copy_from_slice(&u64_bytes(one.ino));
     out[8..16].copy_from_slice(&u64_bytes(one.off));
     out[16..20].copy_from_slice(&u32_bytes(one.name.as_slice().len() as u32));

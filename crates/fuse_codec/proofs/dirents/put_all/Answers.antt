@@ -1,7 +1,7 @@
-use Rattle.std.proofs.Common.{◌≡◌, ◌+◌, ◌<◌, ◌≤◌, ◌++◌, length, get_or, take, sym, ◌∙◌, ap, subst, arith}
+use Rattle.std.proofs.Common.{◌≡◌, ◌++◌, length, get_or, ◌∙◌, ap, subst, arith}
 use Rattle.fuse_wire.specs.Layout.{clean}
 use Rattle.fuse_codec.specs.declared.replies.Dirent.{Dirent}
-use Rattle.fuse_codec.specs.Dirents.{entry_len, dirent_parts, SpellsDirent, SpellDirents}
+use Rattle.fuse_codec.specs.Dirents.{entry_len, dirent_parts, SpellsDirent}
 use Rattle.fuse_codec.proofs.DirentLaws.{none_spelled}
 use Rattle.fuse_codec.proofs.Fitting.{put_more, spelled_more, room_left}
 use Rattle.fuse_codec.proofs.dirents.put_all.Goals as goal

@@ -1,12 +1,10 @@
-use Rattle.std.proofs.Common.{rules, ◌≡◌, ◌-◌, ◌<◌, ◌≤◌, ◌++◌, List, [], ◌∷◌, length, drop, Some, None, Ok, Err, refl, sym, ◌∙◌, ap, subst, arith}
-use Rattle.std.specs.Prelude.{Result}
+use Rattle.std.proofs.Common.{rules, ◌≡◌, ◌-◌, ◌<◌, List, [], length, drop, Some, None, Ok, Err, refl, sym, ◌∙◌, ap, subst, arith}
 use Rattle.std.proofs.lemmas.List.{length-drop, nil_from_length}
 use Rattle.std.proofs.lemmas.Bool.{eqb-true}
 use Rattle.fuse_codec.specs.declared.replies.Dirent.{Dirent}
-use Rattle.fuse_codec.specs.declared.errors.BadDirents.{BadDirents}
 use Rattle.fuse_codec.specs.declared.errors.BadDirents.TheVariants as bad_dirents
 use Rattle.fuse_codec.specs.Dirents.{entry_len, IsCutAt, SpellDirents, first_dirent}
-use Rattle.fuse_codec.proofs.DirentLaws.{WholeBefore, none_spelled, entry_at_least, entry_here, entry_fits, next_whole, nothing_after, cut_here, not_cut, one_cut, one_list}
+use Rattle.fuse_codec.proofs.DirentLaws.{none_spelled, entry_at_least, entry_here, entry_fits, next_whole, nothing_after, cut_here, not_cut, one_cut, one_list}
 use Rattle.fuse_codec.proofs.dirents.read_dirents.Goals as goal
 
 pub loop-rest-init : goal.loop-rest-init

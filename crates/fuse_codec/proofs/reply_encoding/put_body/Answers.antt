@@ -1,7 +1,7 @@
-use Rattle.std.proofs.Common.{◌≡◌, ◌≤◌, ◌+◌, ◌++◌, length, ap, subst, sym, arith}
+use Rattle.std.proofs.Common.{◌≡◌, ◌≤◌, ◌+◌, ◌++◌, length, ap, subst, arith}
 use Rattle.std.specs.Prelude.{vec_capacity}
 use Rattle.std.proofs.lemmas.List.{length-append}
-use Rattle.fuse_wire.specs.Layout.{clean, parts_len}
+use Rattle.fuse_wire.specs.Layout.{parts_len}
 use Rattle.fuse_wire.specs.Attributes.{entry_out}
 use Rattle.fuse_wire.specs.Opens.{open_out}
 use Rattle.fuse_wire.proofs.Laws.{clean_len}
