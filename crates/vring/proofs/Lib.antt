@@ -1,0 +1,5 @@
+pub mod Steps
+pub mod LayoutLemmas
+pub mod ScatterLemmas
+pub mod Examples
+pub mod Lies

@@ -1,0 +1,52 @@
+-- What the device's side keeps, and what its calls do.
+use Rattle.std.specs.Prelude.{◌≡◌, ℕ, ◌+◌, ◌*◌, ◌%◌, ◌^◌, ◌<◌, List, ◌++◌, Option, Some, None, Result, Ok, Err, if◌then◌else◌}
+use Rattle.std.specs.Int.{w16, w32, to_le_bytes}
+use Rattle.vring.specs.declared.layouts.Layout.{Layout}
+use Rattle.vring.specs.declared.chains.Chain.{Chain}
+use Rattle.vring.specs.declared.faults.PopError.{PopError}
+use Rattle.vring.specs.declared.faults.PopError.TheVariants as errors
+use Rattle.vring.specs.declared.faults.RingFault.{RingFault}
+use Rattle.vring.specs.Bytes.{put_at}
+use Rattle.vring.specs.Layout.{is_allowed}
+use Rattle.vring.specs.Chain.{chain_at}
+
+-- a ring as its calls see it
+pub record RingView : Type 0 where
+  -- where its areas lie
+  pub layout : Layout
+  -- how many chains were popped, and pushed, from `start` on and modulo 2 ^ 16
+  pub seen : ℕ
+  pub used_index : ℕ
+
+-- a ring whose indices begin at start, exactly where its areas may lie so
+abbrev pub new_ring : Layout → ℕ → Option RingView
+new_ring l start = if is_allowed l then Some (record { layout = l; seen = start; used_index = start }) else None
+
+-- both indices have 16 bits
+pub record HasIndices (r : RingView) : Type 0 where
+  pub seen : r.seen < 2 ^ 16
+  pub used : r.used_index < 2 ^ 16
+
+-- the index after this one
+abbrev pub next_index : ℕ → ℕ
+next_index n = (n + 1) % 2 ^ 16
+
+-- what was returned is what was found, unless an allocation was refused
+abbrev pub Gives : {X : Type 0} → Result X PopError → Result X RingFault → Type 0
+Gives (Ok x) found = found ≡ Ok x
+Gives (Err (errors.Fault f)) found = found ≡ Err f
+Gives (Err errors.Memory) found = Unit {0}
+
+-- What was popped is what the memory has. A chain raises the seen index; whatever else comes leaves
+-- the ring as it was.
+abbrev pub Pops : RingView → List ℕ → Result (Option Chain) PopError → RingView → Type 0
+Pops old mem (Ok (Some chain)) new = (chain_at mem old.layout old.seen ≡ Ok (Some chain)) × (new ≡ record old { seen = next_index old.seen })
+Pops old mem (Ok None) new = (chain_at mem old.layout old.seen ≡ Ok None) × (new ≡ old)
+Pops old mem (Err (errors.Fault f)) new = (chain_at mem old.layout old.seen ≡ Err f) × (new ≡ old)
+Pops old mem (Err errors.Memory) new = new ≡ old
+
+-- the memory after a chain is pushed: the used ring's entry at its place, then the used index
+abbrev pub used_pushed : RingView → List ℕ → ℕ → ℕ → List ℕ
+used_pushed r mem head len =
+    let entry = put_at mem (r.layout.used + 4 + 8 * (r.used_index % r.layout.size)) (to_le_bytes w32 head ++ to_le_bytes w32 len) in
+    put_at entry (r.layout.used + 2) (to_le_bytes w16 (next_index r.used_index))

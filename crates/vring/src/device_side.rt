@@ -1,0 +1,161 @@
+ghost use Rattle.std.specs.Prelude.{◌≡◌, ◌+◌, ◌*◌, ◌%◌, ◌<◌, ◌≤◌, length, Some, None, IfOk, IfSome};
+ghost use Rattle.vring.specs.Bytes.{u16_at, max_memory};
+ghost use Rattle.vring.specs.Layout.{IsLayout};
+ghost use Rattle.vring.specs.Chain.{chain_at, ChainLiesIn};
+ghost use Rattle.vring.specs.Ring.{Gives, Pops, RingView, HasIndices, new_ring, next_index, used_pushed};
+
+use crate::chains::Chain;
+use crate::faults::{PopError, RingFault};
+use crate::layouts::Layout;
+use crate::memory::GuestMem;
+use crate::numbers::read_u16;
+use crate::walks::follow;
+use std::alloc::Global;
+use std::marker::Model;
+
+/// The device's side of a split virtqueue (VIRTIO 1.2 section 2.7): it pops the chains that the
+/// driver made available, and pushes them into the used ring.
+///
+/// It keeps two indices of its own, both from `start` on and modulo 2^16: the *seen* index, which
+/// says how many chains it popped, and the *used* index, which says how many it pushed. It never
+/// reads the used index from the memory, so nothing that a driver or a chain writes there moves it.
+///
+/// Every call wants a memory as long as the one that the ring was made with. What stands in it may
+/// be anything.
+#[derive(Debug, Drop)]
+pub struct Ring {
+    layout: Layout,
+    seen: u16,
+    used_index: u16,
+}
+
+impl Model for Ring {
+    ghost use Rattle.vring.specs.Ring.{RingView};
+    ghost use Rattle.vring.specs.Layout.{IsLayout};
+
+    ghost Value = { RingView };
+
+    ghost view = { λ r. record { layout = r.layout; seen = r.seen; used_index = r.used_index } };
+
+    ghost invariant = { λ r. IsLayout r.layout };
+}
+
+// The chain that is to come, if there is one.
+#[tactic(auto, unfolding(crate::specs::Chain::chain_at))]
+fn next_chain(
+    alloc: Global,
+    mem: &[u8],
+    layout: &Layout,
+    seen: u16,
+) -> Result<Option<Chain>, PopError>
+    requires layout { IsLayout layout.now }
+    requires memory { length mem.now ≡ layout.now.memory }
+    ensures { Gives result (chain_at mem.now layout.now seen) }
+{
+    let behind = read_u16(mem, layout.available + 2).wrapping_sub(seen);
+    if behind == 0 {
+        return Ok(None);
+    }
+    if behind > layout.size {
+        return Err(PopError::Fault(RingFault::Jump { behind }));
+    }
+    let place = (seen % layout.size) as usize;
+    let head = read_u16(mem, layout.available + 4 + 2 * place);
+    if head >= layout.size {
+        return Err(PopError::Fault(RingFault::BadIndex { index: head }));
+    }
+    follow(alloc, mem, layout, head)
+}
+
+impl Ring {
+    /// A ring of `size` descriptors whose two indices begin at `start`. `desc`, `avail` and `used`
+    /// are the addresses of the descriptor table (16 bytes a descriptor), the available ring (6
+    /// bytes and 2 a descriptor) and the used ring (6 bytes and 8 a descriptor).
+    ///
+    /// None comes exactly where the size isn't a power of two from 1 to 1,024, an area doesn't lie
+    /// in the memory, two of them have a byte in common, or `desc` isn't a multiple of 16, `avail`
+    /// of 2 or `used` of 4. The memory isn't looked into.
+    pub fn new(
+        size: u16,
+        start: u16,
+        desc: u64,
+        avail: u64,
+        used: u64,
+        mem: &GuestMem,
+    ) -> Option<Ring>
+        ensures { result ≡ new_ring (record { size = size; descriptors = desc; available = avail; used = used; memory = length mem.now }) start }
+    {
+        let memory = mem.len();
+        let limit = memory as u64;
+        if desc > limit || avail > limit || used > limit {
+            return None;
+        }
+        let layout = Layout {
+            size,
+            descriptors: desc as usize,
+            available: avail as usize,
+            used: used as usize,
+            memory,
+        };
+        if !layout.is_allowed() {
+            return None;
+        }
+        Some(Ring {
+            layout,
+            seen: start,
+            used_index: start,
+        })
+    }
+
+    /// It does nothing: its clause says that both indices are below 2^16.
+    pub fn indices(&self)
+        ensures { HasIndices self.now }
+    {
+        let _seen = self.seen;
+        let _used = self.used_index;
+    }
+
+    /// Takes the next chain that the driver made available. None comes exactly where the available
+    /// index is the seen one. A chain raises the seen index by 1, modulo 2^16; its pieces lie in the
+    /// memory, and neither part has more than [`MAX_PART`](crate::MAX_PART) bytes.
+    ///
+    /// A fault is the first one of what stands in the memory, in the order that [`RingFault`] gives.
+    /// `Memory` comes where an allocation was refused, which happens only for a part of more than
+    /// eight pieces. After either the ring is as it was, so that the same call answers the same.
+    pub fn pop(&mut self, alloc: Global, mem: &GuestMem) -> Result<Option<Chain>, PopError>
+        requires { length mem.now ≡ self.old.layout.memory }
+        ensures pops { Pops self.old mem.now result self.new }
+        ensures lies { IfOk result (λ o. IfSome o (ChainLiesIn (length mem.now))) }
+    {
+        match next_chain(alloc, mem.as_slice(), &self.layout, self.seen) {
+            Ok(Some(chain)) => {
+                self.seen = self.seen.wrapping_add(1);
+                Ok(Some(chain))
+            }
+            Ok(None) => Ok(None),
+            Err(e) => Err(e),
+        }
+    }
+
+    /// Hands a chain back to the driver: writes its `head` and the number of bytes that were written
+    /// into its writable pieces into the used ring's entry at the used index, modulo the size, then
+    /// raises the used index in the memory and here by 1, modulo 2^16.
+    ///
+    /// The head is that of a chain that was popped and not pushed since.
+    pub fn push_used(&mut self, mem: &mut GuestMem, head: u16, len: u32)
+        requires { length mem.old ≡ self.old.layout.memory }
+        ensures memory { mem.new ≡ used_pushed self.old mem.old head len }
+        ensures len { length mem.new ≡ length mem.old }
+        ensures ring { self.new ≡ record self.old { used_index = next_index self.old.used_index } }
+    {
+        let used = self.layout.used;
+        let place = (self.used_index % self.layout.size) as usize;
+        let next = self.used_index.wrapping_add(1);
+        let h = (head as u32).to_le_bytes();
+        let n = len.to_le_bytes();
+        let entry = [h[0], h[1], h[2], h[3], n[0], n[1], n[2], n[3]];
+        mem.put(used + 4 + 8 * place, &entry);
+        mem.put(used + 2, &next.to_le_bytes());
+        self.used_index = next;
+    }
+}

@@ -1,0 +1,29 @@
+//! A split virtqueue, both sides, over a guest's memory: VIRTIO 1.2 section 2.7.
+//!
+//! [`Ring`] is the device's side. It pops a [`Chain`] of descriptors, whose readable bytes
+//! [`gather`] gives and into whose writable pieces [`scatter`] writes, and pushes it into the used
+//! ring. Whatever stands in the memory, each call returns, and what is no chain is a [`RingFault`].
+//!
+//! What the bytes of a memory mean stands in `specs/`: `Layout` says where the areas may lie,
+//! `Chain` which chain or which fault stands in a memory, `Pieces` what is gathered and scattered,
+//! `Ring` what the calls of the device's side do.
+#![tactic(auto)]
+
+mod chains;
+mod descriptors;
+mod device_side;
+mod faults;
+mod layouts;
+mod memory;
+mod numbers;
+mod transfers;
+mod walks;
+
+pub use chains::{Chain, Piece, Pieces};
+pub use device_side::Ring;
+pub use faults::{NoRoom, Outside, PopError, RingFault};
+pub use memory::GuestMem;
+pub use transfers::{gather, gather_into, scatter};
+
+/// The most bytes of a chain's readable part, and of its writable part: 1 MiB and 4 KiB.
+pub const MAX_PART: u32 = 1_052_672;
