@@ -6,3 +6,4 @@ pub mod Spelling
 pub mod Chain
 pub mod Parts
 pub mod Ring
+pub mod Driver

@@ -12,6 +12,7 @@
 mod chains;
 mod descriptors;
 mod device_side;
+mod driver_side;
 mod faults;
 mod layouts;
 mod memory;
@@ -21,6 +22,7 @@ mod walks;
 
 pub use chains::{Chain, Piece, Pieces};
 pub use device_side::Ring;
+pub use driver_side::{BadUsed, DriverRing, Used};
 pub use faults::{NoRoom, Outside, PopError, RingFault};
 pub use memory::GuestMem;
 pub use transfers::{gather, gather_into, scatter};

@@ -1,0 +1,204 @@
+ghost use Rattle.std.specs.Prelude.{◌≡◌, ◌+◌, ◌*◌, ◌^◌, ◌<◌, ◌≤◌, length, replicate, Some, None, IfOk};
+ghost use Rattle.vring.specs.Chain.{max_part};
+ghost use Rattle.vring.specs.Ring.{next_index};
+ghost use Rattle.vring.specs.Driver.{DriverView, IsQueueSize, driver_layout, is_expected, offered_in, used_at, Takes, written_in};
+
+use crate::MAX_PART;
+use crate::descriptors::{Descriptor, NEXT, WRITE};
+use crate::memory::GuestMem;
+use crate::numbers::{read_u16, read_u32};
+use plain_file::{Blob, Memory};
+use std::alloc::Global;
+use std::marker::Model;
+use thiserror::Error;
+
+/// A chain that the device handed back.
+#[derive(Clone, Copy, Debug, PartialEq, Eq)]
+pub struct Used {
+    /// The index of its first descriptor, as it was offered.
+    pub head: u16,
+    /// How many bytes the device says that it wrote: at most the room that was offered.
+    pub len: u32,
+}
+
+/// An entry of the used ring that isn't of the chain that is offered: `id` isn't its head, or `len`
+/// is more bytes than its room, or no chain is offered. The driver's side is as it was.
+#[derive(Clone, Copy, Debug, PartialEq, Eq, Error)]
+#[error("the used entry of {id} with {len} bytes isn't of the chain that was offered")]
+pub struct BadUsed {
+    pub id: u32,
+    pub len: u32,
+}
+
+/// The driver's side of a split virtqueue (VIRTIO 1.2 section 2.7), which has one chain offered at a
+/// time.
+///
+/// Its memory has the descriptor table at 0, the available ring at 16 bytes a descriptor, the used
+/// ring 8 bytes behind 20 a descriptor, and behind them room for both parts of a chain. It keeps two
+/// indices of its own, both from 0 on and modulo 2^16: how many chains it offered, and how many it
+/// took back.
+///
+/// Every call wants a memory as long as the one that came with the ring. What stands in it may be
+/// anything.
+#[derive(Debug, Drop)]
+pub struct DriverRing {
+    size: u16,
+    offered: u16,
+    taken: u16,
+    room: Option<u32>,
+}
+
+impl Model for DriverRing {
+    ghost use Rattle.vring.specs.Driver.{DriverView, IsQueueSize};
+
+    ghost Value = { DriverView };
+
+    ghost view = { λ r. record { size = r.size; offered = r.offered; taken = r.taken; room = r.room } };
+
+    ghost invariant = { λ r. IsQueueSize r.size };
+}
+
+impl DriverRing {
+    /// A ring of `size` descriptors, a power of two from 4 to 1,024, and the memory in which it
+    /// lies, all 0. Nothing is offered. `Memory` comes where the allocation was refused.
+    pub fn new(alloc: Global, size: u16) -> Result<(DriverRing, GuestMem), Memory>
+        requires { IsQueueSize size }
+        ensures ring { IfOk result (λ p. p.0 ≡ record { size = size; offered = 0; taken = 0; room = None }) }
+        ensures memory { IfOk result (λ p. p.1 ≡ replicate (driver_layout size).memory 0) }
+    {
+        let len = 28 * size as usize + 16 + 2 * MAX_PART as usize;
+        let bytes = Blob::from_vec(vec![in alloc; 0u8; len]?);
+        let ring = DriverRing {
+            size,
+            offered: 0,
+            taken: 0,
+            room: None,
+        };
+        Ok((ring, GuestMem::new(bytes)))
+    }
+
+    /// The addresses of the descriptor table, the available ring and the used ring, which the device
+    /// is told.
+    pub fn device(&self) -> (u64, u64, u64)
+        ensures { let l = driver_layout self.now.size in result ≡ (l.descriptors, l.available, l.used) }
+    {
+        let size = self.size as u64;
+        (0, 16 * size, 20 * size + 8)
+    }
+
+    /// It does nothing: its clauses say that the size is a power of two from 4 to 1,024, and that
+    /// both indices are below 2^16.
+    pub fn indices(&self)
+        ensures size { IsQueueSize self.now.size }
+        ensures offered { self.now.offered < 2 ^ 16 }
+        ensures taken { self.now.taken < 2 ^ 16 }
+    {
+        let _offered = self.offered;
+        let _taken = self.taken;
+    }
+
+    /// Offers the device a chain of two descriptors: one of these bytes to read, then one of `room`
+    /// bytes to write. Gives its head, which is 0.
+    ///
+    /// The bytes, the two descriptors and the available ring's entry are written before the
+    /// available index is raised (VIRTIO 1.2 section 2.7.13). No chain is offered that wasn't taken
+    /// back, and both parts have at most [`MAX_PART`](crate::MAX_PART) bytes.
+    #[tactic(auto, unfolding(crate::specs::Driver::offered_in))]
+    pub fn offer(&mut self, mem: &mut GuestMem, readable: &[u8], room: u32) -> u16
+        requires memory { length mem.old ≡ (driver_layout self.old.size).memory }
+        requires nothing { self.old.room ≡ None }
+        requires readable { length readable.now ≤ max_part }
+        requires room { room ≤ max_part }
+        ensures head { result ≡ 0 }
+        ensures memory { mem.new ≡ offered_in self.old mem.old readable.now room }
+        ensures len { length mem.new ≡ length mem.old }
+        ensures ring { self.new ≡ record self.old { offered = next_index self.old.offered; room = Some room } }
+    {
+        let size = self.size as usize;
+        let readable_at = 28 * size + 16;
+        let first = Descriptor {
+            addr: readable_at as u64,
+            len: readable.len() as u32,
+            flags: NEXT,
+            next: 1,
+        };
+        let second = Descriptor {
+            addr: readable_at as u64 + MAX_PART as u64,
+            len: room,
+            flags: WRITE,
+            next: 0,
+        };
+        let place = (self.offered % self.size) as usize;
+        let next = self.offered.wrapping_add(1);
+        mem.put(readable_at, readable);
+        mem.put(0, &first.to_bytes());
+        mem.put(16, &second.to_bytes());
+        mem.put(16 * size + 4 + 2 * place, &0u16.to_le_bytes());
+        mem.put(16 * size + 2, &next.to_le_bytes());
+        self.offered = next;
+        self.room = Some(room);
+        0
+    }
+
+    /// Takes the offered chain back, if the device handed it back. None comes exactly where the used
+    /// index in the memory is the number of chains that were taken back, modulo 2^16.
+    ///
+    /// `BadUsed` comes exactly where the used ring's entry at that number, modulo the size, isn't
+    /// the offered head, or its length is above the room, or no chain is offered. After None or
+    /// `BadUsed` the driver's side is as it was, so that the same call answers the same.
+    pub fn take_used(&mut self, mem: &GuestMem) -> Result<Option<Used>, BadUsed>
+        requires { length mem.now ≡ (driver_layout self.old.size).memory }
+        ensures { Takes self.old mem.now result self.new }
+    {
+        match next_used(mem.as_slice(), self.size, self.taken, self.room) {
+            Ok(Some(used)) => {
+                self.taken = self.taken.wrapping_add(1);
+                self.room = None;
+                Ok(Some(used))
+            }
+            Ok(None) => Ok(None),
+            Err(e) => Err(e),
+        }
+    }
+
+    /// The first `len` bytes of the room, at most [`MAX_PART`](crate::MAX_PART): what the device
+    /// wrote, where it is a [`Used`] chain's length.
+    pub fn written<'a>(&self, mem: &'a GuestMem, len: u32) -> &'a [u8]
+        requires memory { length mem.now ≡ (driver_layout self.now.size).memory }
+        requires len { len ≤ max_part }
+        ensures { result.now ≡ written_in mem.now self.now.size len }
+    {
+        let at = 28 * self.size as usize + 16 + MAX_PART as usize;
+        &mem.as_slice()[at..at + len as usize]
+    }
+}
+
+// What stands in the used ring at the place of the next chain to be taken back.
+#[tactic(auto, unfolding(crate::specs::Driver::used_at))]
+fn next_used(mem: &[u8], size: u16, taken: u16, room: Option<u32>) -> Result<Option<Used>, BadUsed>
+    requires size { IsQueueSize size }
+    requires memory { length mem.now ≡ (driver_layout size).memory }
+    ensures { result ≡ used_at mem.now size taken room }
+{
+    let used = 20 * size as usize + 8;
+    if read_u16(mem, used + 2) == taken {
+        return Ok(None);
+    }
+    let at = used + 4 + 8 * (taken % size) as usize;
+    let id = read_u32(mem, at);
+    let len = read_u32(mem, at + 4);
+    if is_expected(room, id, len) {
+        return Ok(Some(Used { head: 0, len }));
+    }
+    Err(BadUsed { id, len })
+}
+
+// Whether an entry is of the chain that has this room.
+fn is_expected(room: Option<u32>, id: u32, len: u32) -> bool
+    ensures { result ≡ is_expected room id len }
+{
+    match room {
+        None => false,
+        Some(room) => id == 0 && len <= room,
+    }
+}
