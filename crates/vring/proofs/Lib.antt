@@ -3,3 +3,5 @@ pub mod LayoutLemmas
 pub mod ScatterLemmas
 pub mod Examples
 pub mod Lies
+pub mod PutLemmas
+pub mod Offers

@@ -3,6 +3,7 @@ use Rattle.std.specs.Prelude.{◌≡◌, ℕ, ◌+◌, ◌*◌, ◌%◌, ◌==�
 use Rattle.std.specs.Int.{w16, to_le_bytes, is_power_of_two}
 use Rattle.vring.specs.declared.layouts.Layout.{Layout}
 use Rattle.vring.specs.declared.descriptors.Descriptor.{Descriptor}
+use Rattle.vring.specs.declared.chains.Piece.{Piece}
 use Rattle.vring.specs.declared.chains.Chain.{Chain}
 use Rattle.vring.specs.declared.driver_side.Used.{Used}
 use Rattle.vring.specs.declared.driver_side.BadUsed.{BadUsed}
@@ -82,6 +83,10 @@ pub record IsOffer (size offered len room : ℕ) : Type 0 where
   pub len_is : len ≤ max_part
   pub room_is : room ≤ max_part
 
+-- the one piece of so much room, which the device may write
+abbrev pub offered_room : ℕ → ℕ → List Piece
+offered_room size room = record { addr = writable_at size; len = room } ∷ []
+
 -- the chain that the device finds then
 abbrev pub offered_chain : ℕ → ℕ → ℕ → Chain
-offered_chain size len room = record { head = 0; readable = record { addr = readable_at size; len = len } ∷ []; writable = record { addr = writable_at size; len = room } ∷ [] }
+offered_chain size len room = record { head = 0; readable = record { addr = readable_at size; len = len } ∷ []; writable = offered_room size room }

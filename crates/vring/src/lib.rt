@@ -14,6 +14,7 @@ mod descriptors;
 mod device_side;
 mod driver_side;
 mod faults;
+mod laws;
 mod layouts;
 mod memory;
 mod numbers;
@@ -24,6 +25,10 @@ pub use chains::{Chain, Piece, Pieces};
 pub use device_side::Ring;
 pub use driver_side::{BadUsed, DriverRing, Used};
 pub use faults::{NoRoom, Outside, PopError, RingFault};
+pub use laws::{
+    driver_areas_are_allowed, offered_is_gathered, offered_is_popped, pushed_is_taken,
+    scattered_is_written,
+};
 pub use memory::GuestMem;
 pub use transfers::{gather, gather_into, scatter};
 
