@@ -22,11 +22,6 @@ pub record RingView : Type 0 where
 abbrev pub new_ring : Layout → ℕ → Option RingView
 new_ring l start = if is_allowed l then Some (record { layout = l; seen = start; used_index = start }) else None
 
--- both indices have 16 bits
-pub record HasIndices (r : RingView) : Type 0 where
-  pub seen : r.seen < 2 ^ 16
-  pub used : r.used_index < 2 ^ 16
-
 -- the index after this one
 abbrev pub next_index : ℕ → ℕ
 next_index n = (n + 1) % 2 ^ 16

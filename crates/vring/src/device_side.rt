@@ -1,8 +1,8 @@
-ghost use Rattle.std.specs.Prelude.{◌≡◌, ◌+◌, ◌*◌, ◌%◌, ◌<◌, ◌≤◌, length, Some, None, IfOk, IfSome};
+ghost use Rattle.std.specs.Prelude.{◌≡◌, ◌+◌, ◌*◌, ◌%◌, ◌^◌, ◌<◌, ◌≤◌, length, Some, None, IfOk, IfSome};
 ghost use Rattle.vring.specs.Bytes.{u16_at, max_memory};
 ghost use Rattle.vring.specs.Layout.{IsLayout};
 ghost use Rattle.vring.specs.Chain.{chain_at, ChainLiesIn};
-ghost use Rattle.vring.specs.Ring.{Gives, Pops, RingView, HasIndices, new_ring, next_index, used_pushed};
+ghost use Rattle.vring.specs.Ring.{Gives, Pops, RingView, new_ring, next_index, used_pushed};
 
 use crate::chains::Chain;
 use crate::faults::{PopError, RingFault};
@@ -83,7 +83,8 @@ impl Ring {
         used: u64,
         mem: &GuestMem,
     ) -> Option<Ring>
-        ensures { result ≡ new_ring (record { size = size; descriptors = desc; available = avail; used = used; memory = length mem.now }) start }
+        ensures ring { result ≡ new_ring (record { size = size; descriptors = desc; available = avail; used = used; memory = length mem.now }) start }
+        ensures memory { IfSome result (λ r. r.layout.memory ≡ length mem.now) }
     {
         let memory = mem.len();
         let limit = memory as u64;
@@ -107,12 +108,20 @@ impl Ring {
         })
     }
 
-    /// It does nothing: its clause says that both indices are below 2^16.
-    pub fn indices(&self)
-        ensures { HasIndices self.now }
+    /// How many chains were popped, from `start` on and modulo 2^16.
+    pub fn seen(&self) -> u16
+        ensures value { result ≡ self.now.seen }
+        ensures fits { self.now.seen < 2 ^ 16 }
     {
-        let _seen = self.seen;
-        let _used = self.used_index;
+        self.seen
+    }
+
+    /// How many chains were pushed, from `start` on and modulo 2^16.
+    pub fn used_index(&self) -> u16
+        ensures value { result ≡ self.now.used_index }
+        ensures fits { self.now.used_index < 2 ^ 16 }
+    {
+        self.used_index
     }
 
     /// Takes the next chain that the driver made available. None comes exactly where the available

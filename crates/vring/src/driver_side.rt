@@ -86,15 +86,35 @@ impl DriverRing {
         (0, 16 * size, 20 * size + 8)
     }
 
-    /// It does nothing: its clauses say that the size is a power of two from 4 to 1,024, and that
-    /// both indices are below 2^16.
-    pub fn indices(&self)
-        ensures size { IsQueueSize self.now.size }
-        ensures offered { self.now.offered < 2 ^ 16 }
-        ensures taken { self.now.taken < 2 ^ 16 }
+    /// The queue size: how many descriptors there are.
+    pub fn size(&self) -> u16
+        ensures value { result ≡ self.now.size }
+        ensures queue { IsQueueSize self.now.size }
     {
-        let _offered = self.offered;
-        let _taken = self.taken;
+        self.size
+    }
+
+    /// How many chains were offered, modulo 2^16.
+    pub fn offered(&self) -> u16
+        ensures value { result ≡ self.now.offered }
+        ensures fits { self.now.offered < 2 ^ 16 }
+    {
+        self.offered
+    }
+
+    /// How many chains were taken back, modulo 2^16.
+    pub fn taken(&self) -> u16
+        ensures value { result ≡ self.now.taken }
+        ensures fits { self.now.taken < 2 ^ 16 }
+    {
+        self.taken
+    }
+
+    /// The room of the chain that is offered; None where none is.
+    pub fn room(&self) -> Option<u32>
+        ensures { result ≡ self.now.room }
+    {
+        self.room
     }
 
     /// Offers the device a chain of two descriptors: one of these bytes to read, then one of `room`

@@ -89,7 +89,8 @@ impl GuestMem {
     /// `Outside` comes exactly where `addr` plus their number is above the memory's length; the sum
     /// doesn't wrap. The memory is as it was then.
     pub fn write(&mut self, addr: u64, bytes: &[u8]) -> Result<(), Outside>
-        ensures { Writes self.old addr bytes.now result self.new }
+        ensures writes { Writes self.old addr bytes.now result self.new }
+        ensures len { length self.new ≡ length self.old }
     {
         if !is_within(self.bytes.len(), addr, bytes.len()) {
             return Err(outside(addr, bytes.len()));
