@@ -5,3 +5,4 @@ pub mod Examples
 pub mod Lies
 pub mod PutLemmas
 pub mod Offers
+pub mod QueueSizes

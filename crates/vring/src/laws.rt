@@ -1,3 +1,5 @@
+ghost use Rattle.std.specs.Prelude.{[], ◌∷◌, All};
+ghost use Rattle.vring.specs.Driver.{IsQueueSize};
 ghost use Rattle.vring.specs.Laws.{OfferedIsPopped, OfferedIsGathered, PushedIsTaken, ScatteredIsWritten, DriverAreasAreAllowed};
 
 /// The chain that a driver offers is the one that the device pops which has seen as many: one
@@ -34,4 +36,10 @@ pub fn scattered_is_written()
 #[tactic(auto, unfolding(crate::specs::Layout::is_allowed))]
 pub fn driver_areas_are_allowed()
     ensures { DriverAreasAreAllowed }
+{}
+
+/// The powers of two from 4 to 1,024 are the sizes that a driver's ring may have: by it a caller has
+/// the condition of [`DriverRing::new`](crate::DriverRing::new) at a number that is written out.
+pub fn powers_of_two_are_queue_sizes()
+    ensures { All IsQueueSize (4 ∷ 8 ∷ 16 ∷ 32 ∷ 64 ∷ 128 ∷ 256 ∷ 512 ∷ 1024 ∷ []) }
 {}

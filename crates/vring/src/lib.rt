@@ -18,6 +18,8 @@ mod laws;
 mod layouts;
 mod memory;
 mod numbers;
+#[cfg(test)]
+mod tests;
 mod transfers;
 mod walks;
 
@@ -26,8 +28,8 @@ pub use device_side::Ring;
 pub use driver_side::{BadUsed, DriverRing, Used};
 pub use faults::{NoRoom, Outside, PopError, RingFault};
 pub use laws::{
-    driver_areas_are_allowed, offered_is_gathered, offered_is_popped, pushed_is_taken,
-    scattered_is_written,
+    driver_areas_are_allowed, offered_is_gathered, offered_is_popped,
+    powers_of_two_are_queue_sizes, pushed_is_taken, scattered_is_written,
 };
 pub use memory::GuestMem;
 pub use transfers::{gather, gather_into, scatter};
