@@ -9,6 +9,7 @@ use Rattle.vring.specs.declared.chains.Chain.{Chain}
 use Rattle.vring.specs.declared.faults.RingFault.{RingFault}
 use Rattle.vring.specs.declared.faults.RingFault.TheVariants as faults
 use Rattle.vring.specs.Bytes.{u16_at}
+use Rattle.vring.specs.Ring.{Finds}
 use Rattle.vring.specs.Chain.{max_part, ahead, descriptor_at, is_writable, has, reached, piece_at, fault_of, fault_at, first_fault, readable_of, writable_of, long_of, or_else, unless, chain_of, chain_at, LiesIn, ChainLiesIn}
 
 passed : (b : Bool) (f : RingFault) (x : Option RingFault) → cond b (Some f) x ≡ None → (b ≡ false) × (x ≡ None)
@@ -83,3 +84,8 @@ popped_lies mem l seen c e =
     let some = chosen_none (behind == 0) far c e in
     let near = chosen (nat_lt l.size behind) (faults.Jump behind) _ _ some in
     chain_lies mem l head (reached mem l head (l.size + 1)) c (chosen (nat_le l.size head) (faults.BadIndex head) _ _ near)
+
+-- the same of a chain that was filled
+pub filled_lies : (mem : List ℕ) (l : Layout) (seen : ℕ) (b : Bool) (c : Chain) → b ≡ true → Finds (Ok b) c (chain_at mem l seen) → ChainLiesIn (length mem) c
+filled_lies mem l seen true c e h = popped_lies mem l seen c h
+filled_lies mem l seen false c e h = cc

@@ -9,12 +9,11 @@ use Rattle.std.proofs.lemmas.List.Elements.{filter-append}
 use Rattle.vring.specs.declared.layouts.Layout.{Layout}
 use Rattle.vring.specs.declared.chains.Chain.{Chain}
 use Rattle.vring.specs.declared.descriptors.Descriptor.{Descriptor}
-use Rattle.vring.specs.declared.walks.Parts.{Parts}
 use Rattle.vring.specs.declared.faults.RingFault.{RingFault}
 use Rattle.vring.specs.declared.faults.RingFault.TheVariants as faults
 use Rattle.vring.specs.Pieces.{total}
 use Rattle.vring.specs.Chain.{descriptor_at, has, goes_on, reached, is_writable, piece_at, fault_of, fault_at, first_fault, readable_of, writable_of, long_of, unless, chain_of}
-use Rattle.vring.specs.Parts.{placed}
+use Rattle.vring.specs.Parts.{Parts, parts_of, placed}
 
 abbrev pub whole : List ℕ → Layout → ℕ → Result (Option Chain) RingFault
 whole mem l head = chain_of mem l head [] (reached mem l head (l.size + 1))
@@ -126,15 +125,16 @@ chain_end : (mem : List ℕ) (l : Layout) (head : ℕ) (xs : List ℕ) (p : Part
 unfolding chain_of first_fault
 chain_end mem l head xs p h = rw (append-nil xs, ← h.readable, ← h.writable) refl
 
-pub follow_end : (mem : List ℕ) (l : Layout) (head index : ℕ) (p q : Parts) (count : ℕ) (d : Descriptor) (empty : Bool) → IsAt mem l head index p count d empty → None ≡ fault_of (length mem) l.size (not empty) index d → has d.flags 1 ≡ false → q ≡ placed p d → whole mem l head ≡ unless (long_of (total q.readable) (total q.writable)) (Some (record { head = head; readable = q.readable; writable = q.writable }))
+pub follow_end : (mem : List ℕ) (l : Layout) (head index : ℕ) (p : Parts) (chain : Chain) (count : ℕ) (d : Descriptor) (empty : Bool) → IsAt mem l head index p count d empty → None ≡ fault_of (length mem) l.size (not empty) index d → has d.flags 1 ≡ false → chain.head ≡ head → parts_of chain ≡ placed p d → whole mem l head ≡ unless (long_of (total chain.readable) (total chain.writable)) (Some chain)
 unfolding reached
-follow_end mem l head index p q count d empty h e ends q_is =
+follow_end mem l head index p chain count d empty h e ends head_is chain_is =
     let f = h.follows in
     let parts : HasParts mem l (placed p d) (f.before ++ index ∷ []) = rw h.descriptor (placed_after mem l p f.before index (record { readable = f.readable; writable = f.writable })) in
     let off : goes_on l (descriptor_at mem l index) ≡ false = rw (← h.descriptor) (goes_on_false l d ends) in
     let same : chain_of mem l head f.before (index ∷ []) ≡ whole mem l head = rw off at f.same in
     sym same ∙ chain_step mem l head index f.before [] (fault_is mem l head index p count d empty h ∙ sym e)
-    ∙ chain_end mem l head (f.before ++ index ∷ []) q (rw q_is parts)
+    ∙ chain_end mem l head (f.before ++ index ∷ []) (parts_of chain) (rw chain_is parts)
+    ∙ ap (λ n. unless (long_of (total chain.readable) (total chain.writable)) (Some (record { head = n; readable = chain.readable; writable = chain.writable }))) (sym head_is)
 
 pub follow_first : (mem : List ℕ) (l : Layout) (head : ℕ) → Follows mem l head head (record { readable = []; writable = [] }) 0
 unfolding readable_of writable_of

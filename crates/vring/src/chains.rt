@@ -85,6 +85,15 @@ impl Pieces {
         self.sum
     }
 
+    /// Takes all pieces away, and keeps the room that they had.
+    #[tactic(auto, unfolding(crate::specs::Pieces::total))]
+    pub fn clear(&mut self)
+        ensures { self.new ≡ [] }
+    {
+        self.items.clear();
+        self.sum = 0;
+    }
+
     /// Adds a piece at the end. The sum stays below 2^64. After an error, which comes where an
     /// allocation was refused, the pieces are as they were.
     #[tactic(auto, unfolding(crate::specs::Pieces::total))]
@@ -96,5 +105,27 @@ impl Pieces {
         self.items.push(piece)?;
         self.sum += piece.len as u64;
         Ok(())
+    }
+}
+
+impl Chain {
+    /// A chain of no pieces with head 0, into which a chain can be popped. It takes no memory.
+    pub fn new(alloc: Global) -> Chain
+        ensures { result ≡ record { head = 0; readable = []; writable = [] } }
+    {
+        Chain {
+            head: 0,
+            readable: Pieces::new(alloc),
+            writable: Pieces::new(alloc),
+        }
+    }
+
+    // A chain of no pieces, with the room that it had.
+    pub(crate) fn begin(&mut self, head: u16)
+        ensures { self.new ≡ record { head = head; readable = []; writable = [] } }
+    {
+        self.head = head;
+        self.readable.clear();
+        self.writable.clear();
     }
 }

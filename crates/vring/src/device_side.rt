@@ -1,8 +1,8 @@
-ghost use Rattle.std.specs.Prelude.{◌≡◌, ◌+◌, ◌*◌, ◌%◌, ◌^◌, ◌<◌, ◌≤◌, length, Some, None, IfOk, IfSome};
+ghost use Rattle.std.specs.Prelude.{◌≡◌, ◌+◌, ◌*◌, ◌%◌, ◌^◌, ◌<◌, ◌≤◌, length, true, Ok, Some, None, IfOk, IfSome};
 ghost use Rattle.vring.specs.Bytes.{u16_at, max_memory};
 ghost use Rattle.vring.specs.Layout.{IsLayout};
 ghost use Rattle.vring.specs.Chain.{chain_at, ChainLiesIn};
-ghost use Rattle.vring.specs.Ring.{Gives, Pops, RingView, new_ring, next_index, used_pushed};
+ghost use Rattle.vring.specs.Ring.{Finds, Pops, PopsInto, RingView, new_ring, next_index, used_pushed};
 
 use crate::chains::Chain;
 use crate::faults::{PopError, RingFault};
@@ -40,21 +40,16 @@ impl Model for Ring {
     ghost invariant = { λ r. IsLayout r.layout };
 }
 
-// The chain that is to come, if there is one.
+// Makes `chain` the one that is to come, and says whether there is one.
 #[tactic(auto, unfolding(crate::specs::Chain::chain_at))]
-fn next_chain(
-    alloc: Global,
-    mem: &[u8],
-    layout: &Layout,
-    seen: u16,
-) -> Result<Option<Chain>, PopError>
+fn next_chain(mem: &[u8], layout: &Layout, seen: u16, chain: &mut Chain) -> Result<bool, PopError>
     requires layout { IsLayout layout.now }
     requires memory { length mem.now ≡ layout.now.memory }
-    ensures { Gives result (chain_at mem.now layout.now seen) }
+    ensures { Finds result chain.new (chain_at mem.now layout.now seen) }
 {
     let behind = read_u16(mem, layout.available + 2).wrapping_sub(seen);
     if behind == 0 {
-        return Ok(None);
+        return Ok(false);
     }
     if behind > layout.size {
         return Err(PopError::Fault(RingFault::Jump { behind }));
@@ -64,7 +59,8 @@ fn next_chain(
     if head >= layout.size {
         return Err(PopError::Fault(RingFault::BadIndex { index: head }));
     }
-    follow(alloc, mem, layout, head)
+    follow(mem, layout, head, chain)?;
+    Ok(true)
 }
 
 impl Ring {
@@ -136,12 +132,28 @@ impl Ring {
         ensures pops { Pops self.old mem.now result self.new }
         ensures lies { IfOk result (λ o. IfSome o (ChainLiesIn (length mem.now))) }
     {
-        match next_chain(alloc, mem.as_slice(), &self.layout, self.seen) {
-            Ok(Some(chain)) => {
+        let mut chain = Chain::new(alloc);
+        match self.pop_into(mem, &mut chain) {
+            Ok(true) => Ok(Some(chain)),
+            Ok(false) => Ok(None),
+            Err(e) => Err(e),
+        }
+    }
+
+    /// The same as [`Ring::pop`], into `chain`, whose old pieces are taken away and whose room is
+    /// used again: so one value serves chain after chain, and no chain is moved. The answer says
+    /// whether there is a chain. Where there is none, and after an error, nothing is said of `chain`.
+    pub fn pop_into(&mut self, mem: &GuestMem, chain: &mut Chain) -> Result<bool, PopError>
+        requires { length mem.now ≡ self.old.layout.memory }
+        ensures pops { PopsInto self.old mem.now result chain.new self.new }
+        ensures lies { result ≡ Ok true → ChainLiesIn (length mem.now) chain.new }
+    {
+        match next_chain(mem.as_slice(), &self.layout, self.seen, chain) {
+            Ok(true) => {
                 self.seen = self.seen.wrapping_add(1);
-                Ok(Some(chain))
+                Ok(true)
             }
-            Ok(None) => Ok(None),
+            Ok(false) => Ok(false),
             Err(e) => Err(e),
         }
     }

@@ -94,6 +94,10 @@ impl Device {
         self.ring.pop(alloc, &self.mem)
     }
 
+    fn pop_into(&mut self, chain: &mut Chain) -> Result<bool, PopError> {
+        self.ring.pop_into(&self.mem, chain)
+    }
+
     // The next chain, which is there.
     fn chain(&mut self, rt: &impl Abort, alloc: Global) -> Result<Chain, Fail>
         ensures { IfOk result (λ c. ChainLiesIn (length self.new.mem) c) }

@@ -106,6 +106,34 @@ fn check_pieces(rt: &impl Abort, pieces: &Pieces, wanted: &[(u64, u32)]) {
     assert_eq!(rt; pieces.sum(), sum);
 }
 
+#[test]
+fn pops_into_one_chain_after_another(rt: HostRuntime) -> Result<(), Fail> {
+    let alloc = rt.alloc();
+    let mut device = Device::new(&rt, alloc, 1024, 0, 32_000)?;
+    for index in 0..9 {
+        device.add_piece(index, 9)?;
+    }
+    device.descriptors(9, &[(1000, 7, WRITE, 0), (1000, 7, INDIRECT, 0)])?;
+    device.mem.write(16_386, &[3, 0, 0, 0, 9, 0, 10, 0])?;
+    let mut chain = Chain::new(alloc);
+    assert!(rt; chain.readable.is_empty() && chain.writable.is_empty());
+    assert_eq!(rt; device.pop_into(&mut chain), Ok(true));
+    assert_eq!(rt;
+        (chain.head, chain.readable.len(), chain.readable.sum()),
+        (0, 9, 9)
+    );
+    assert_eq!(rt; device.pop_into(&mut chain), Ok(true));
+    assert_eq!(rt; chain.head, 9);
+    check_pieces(&rt, &chain.readable, &[]);
+    check_pieces(&rt, &chain.writable, &[(1000, 7)]);
+    let fault = RingFault::Indirect { index: 10 };
+    assert_eq!(rt; device.pop_into(&mut chain), Err(PopError::Fault(fault)));
+    assert_eq!(rt; device.ring.seen(), 2);
+    device.number(16_386, 2)?;
+    assert_eq!(rt; device.pop_into(&mut chain), Ok(false));
+    Ok(())
+}
+
 // Up to eight pieces need no memory of their own.
 #[test]
 fn pops_chains_of_many_pieces(rt: HostRuntime) -> Result<(), Fail> {
