@@ -6,6 +6,7 @@ use Rattle.std.proofs.lemmas.Grind.{common_steps}
 use Rattle.std.proofs.lemmas.List.{drop-drop, append-nil, take_all}
 use Rattle.std.proofs.lemmas.Nat.{from_le_bytes-to_le_bytes_2, from_le_bytes-to_le_bytes_4, from_le_bytes-to_le_bytes_8}
 use Rattle.vring.specs.declared.layouts.Layout.{Layout}
+use Rattle.vring.specs.declared.chains.Piece.{Piece}
 use Rattle.vring.specs.declared.descriptors.Descriptor.{Descriptor}
 use Rattle.vring.specs.Bytes.{u16_at, u32_at, u64_at, put_at}
 use Rattle.vring.specs.Spelling.{descriptor_bytes}
@@ -231,8 +232,8 @@ unfolding scattered
 scattered_one mem bytes addr room h = ap (put_at mem addr) (take_all room bytes h)
 
 -- what the device scatters into the room stands there after it pushed the chain
-pub back_written : (mem bytes : List ℕ) (r : RingView) (size room head count : ℕ) → IsQueueSize size → r.layout ≡ driver_layout size → length bytes ≤ room → room ≤ max_part → length mem ≡ 28 * size + 2105360 → written_in (used_pushed r (scattered mem (offered_room size room) bytes) head count) size (length bytes) ≡ bytes
-back_written mem bytes r size room head count s layout small top h =
+pub back_written : (mem bytes : List ℕ) (pieces : List Piece) (r : RingView) (size room head count len : ℕ) → IsQueueSize size → r.layout ≡ driver_layout size → pieces ≡ offered_room size room → len ≡ length bytes → len ≤ room → room ≤ max_part → length mem ≡ 28 * size + 2105360 → written_in (used_pushed r (scattered mem pieces bytes) head count) size len ≡ bytes
+back_written mem bytes pieces r size room head count len s layout pieces_is len_is small top h =
     let from = writable_at size in
     let at = 20 * size + 8 + 4 + 8 * (r.used_index % size) in
     let index = 20 * size + 8 + 2 in
@@ -243,7 +244,11 @@ back_written mem bytes r size room head count s layout small top h =
     let b = put_at a at entry in
     let a_len : length a ≡ length mem = length-put_at mem from bytes (omega arith) in
     let b_len : length b ≡ length a = length-put_at a at entry (omega arith) in
-    rw (layout, scattered_one mem bytes from room small) (
+    rw (layout, pieces_is, scattered_one mem bytes from room (omega arith), len_is) (
     read_behind b index (to_le_bytes w16 (next_index r.used_index)) from (length bytes) (omega arith) (omega arith)
     ∙ read_behind a at entry from (length bytes) (omega arith) (omega arith)
     ∙ read_inside mem from bytes (length bytes) (omega arith) refl)
+
+-- the room's pieces take as many bytes as were offered
+pub room_offered : (pieces : List Piece) (size room : ℕ) → pieces ≡ offered_room size room → total pieces ≡ room
+room_offered pieces size room e = rw e (total_one (writable_at size) room)

@@ -1,14 +1,40 @@
 -- The sizes that a driver's ring may have.
-use Rattle.std.proofs.Common.{◌≡◌, refl, ◌≤◌, [], ◌∷◌, All, lit≤, true, ℕ}
-use Rattle.std.specs.List.{AllByRecursion}
-use Rattle.std.specs.Int.{is_power_of_two}
-use Rattle.std.proofs.lemmas.List.Elements.{All-from_recursion}
+use Rattle.std.proofs.Common.{◌≡◌, refl, ◌≤◌, lit≤, true, ℕ}
 use lib.Count.{ones}
 use Rattle.vring.specs.Driver.{IsQueueSize}
 
-is_size : (n : ℕ) → 4 ≤ n → n ≤ 1024 → is_power_of_two n ≡ true → IsQueueSize n
-is_size n least most power = record { least = least; most = most; power = power }
-
-pub queue_sizes : All IsQueueSize (4 ∷ 8 ∷ 16 ∷ 32 ∷ 64 ∷ 128 ∷ 256 ∷ 512 ∷ 1024 ∷ [])
+pub size_4 : IsQueueSize 4
 unfolding ones
-queue_sizes = All-from_recursion IsQueueSize (4 ∷ 8 ∷ 16 ∷ 32 ∷ 64 ∷ 128 ∷ 256 ∷ 512 ∷ 1024 ∷ []) (is_size 4 (lit≤ tt) (lit≤ tt) refl, (is_size 8 (lit≤ tt) (lit≤ tt) refl, (is_size 16 (lit≤ tt) (lit≤ tt) refl, (is_size 32 (lit≤ tt) (lit≤ tt) refl, (is_size 64 (lit≤ tt) (lit≤ tt) refl, (is_size 128 (lit≤ tt) (lit≤ tt) refl, (is_size 256 (lit≤ tt) (lit≤ tt) refl, (is_size 512 (lit≤ tt) (lit≤ tt) refl, (is_size 1024 (lit≤ tt) (lit≤ tt) refl, tt)))))))))
+size_4 = record { least = lit≤ tt; most = lit≤ tt; power = refl }
+
+pub size_8 : IsQueueSize 8
+unfolding ones
+size_8 = record { least = lit≤ tt; most = lit≤ tt; power = refl }
+
+pub size_16 : IsQueueSize 16
+unfolding ones
+size_16 = record { least = lit≤ tt; most = lit≤ tt; power = refl }
+
+pub size_32 : IsQueueSize 32
+unfolding ones
+size_32 = record { least = lit≤ tt; most = lit≤ tt; power = refl }
+
+pub size_64 : IsQueueSize 64
+unfolding ones
+size_64 = record { least = lit≤ tt; most = lit≤ tt; power = refl }
+
+pub size_128 : IsQueueSize 128
+unfolding ones
+size_128 = record { least = lit≤ tt; most = lit≤ tt; power = refl }
+
+pub size_256 : IsQueueSize 256
+unfolding ones
+size_256 = record { least = lit≤ tt; most = lit≤ tt; power = refl }
+
+pub size_512 : IsQueueSize 512
+unfolding ones
+size_512 = record { least = lit≤ tt; most = lit≤ tt; power = refl }
+
+pub size_1024 : IsQueueSize 1024
+unfolding ones
+size_1024 = record { least = lit≤ tt; most = lit≤ tt; power = refl }

@@ -1,7 +1,8 @@
 -- What one side of a ring writes is what the other reads, whatever stood in the memory before.
 use Rattle.std.specs.Prelude.{◌≡◌, ℕ, ◌^◌, ◌<◌, ◌≤◌, true, List, length, Some, Ok}
+use Rattle.vring.specs.declared.chains.Piece.{Piece}
 use Rattle.vring.specs.Layout.{is_allowed}
-use Rattle.vring.specs.Pieces.{gathered, scattered}
+use Rattle.vring.specs.Pieces.{total, gathered, scattered}
 use Rattle.vring.specs.Chain.{chain_at, max_part}
 use Rattle.vring.specs.Ring.{RingView, used_pushed}
 use Rattle.vring.specs.Driver.{DriverView, IsQueueSize, IsOffer, driver_layout, offered_in, offered_chain, offered_room, used_at, written_in}
@@ -20,7 +21,11 @@ PushedIsTaken = (mem : List ℕ) (r : RingView) (size room len : ℕ) → IsQueu
 
 -- what the device scattered into the offered room before it pushed, the driver finds there
 abbrev pub ScatteredIsWritten : Type 0
-ScatteredIsWritten = (mem bytes : List ℕ) (r : RingView) (size room head count : ℕ) → IsQueueSize size → r.layout ≡ driver_layout size → length bytes ≤ room → room ≤ max_part → length mem ≡ (driver_layout size).memory → written_in (used_pushed r (scattered mem (offered_room size room) bytes) head count) size (length bytes) ≡ bytes
+ScatteredIsWritten = (mem bytes : List ℕ) (pieces : List Piece) (r : RingView) (size room head count len : ℕ) → IsQueueSize size → r.layout ≡ driver_layout size → pieces ≡ offered_room size room → len ≡ length bytes → len ≤ room → room ≤ max_part → length mem ≡ (driver_layout size).memory → written_in (used_pushed r (scattered mem pieces bytes) head count) size len ≡ bytes
+
+-- the pieces of the offered room take as many bytes as were offered
+abbrev pub RoomIsOffered : Type 0
+RoomIsOffered = (pieces : List Piece) (size room : ℕ) → pieces ≡ offered_room size room → total pieces ≡ room
 
 -- a ring of the driver's areas is made
 abbrev pub DriverAreasAreAllowed : Type 0

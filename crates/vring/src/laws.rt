@@ -1,6 +1,5 @@
-ghost use Rattle.std.specs.Prelude.{[], ◌∷◌, All};
 ghost use Rattle.vring.specs.Driver.{IsQueueSize};
-ghost use Rattle.vring.specs.Laws.{OfferedIsPopped, OfferedIsGathered, PushedIsTaken, ScatteredIsWritten, DriverAreasAreAllowed};
+ghost use Rattle.vring.specs.Laws.{OfferedIsPopped, OfferedIsGathered, PushedIsTaken, ScatteredIsWritten, RoomIsOffered, DriverAreasAreAllowed};
 
 /// The chain that a driver offers is the one that the device pops which has seen as many: one
 /// readable piece of the offered bytes' number, one writable piece of the offered room.
@@ -27,7 +26,6 @@ pub fn pushed_is_taken()
 {}
 
 /// What the device scattered into the room before it pushed the chain, the driver finds there.
-#[tactic(auto, using(crate::proofs::Offers::back_written))]
 pub fn scattered_is_written()
     ensures { ScatteredIsWritten }
 {}
@@ -38,8 +36,23 @@ pub fn driver_areas_are_allowed()
     ensures { DriverAreasAreAllowed }
 {}
 
+/// The writable pieces of that chain take as many bytes as the offered room, so that scattering up to
+/// as many is never refused.
+#[tactic(auto, using(crate::proofs::Offers::room_offered))]
+pub fn room_is_offered()
+    ensures { RoomIsOffered }
+{}
+
 /// The powers of two from 4 to 1,024 are the sizes that a driver's ring may have: by it a caller has
 /// the condition of [`DriverRing::new`](crate::DriverRing::new) at a number that is written out.
 pub fn powers_of_two_are_queue_sizes()
-    ensures { All IsQueueSize (4 ∷ 8 ∷ 16 ∷ 32 ∷ 64 ∷ 128 ∷ 256 ∷ 512 ∷ 1024 ∷ []) }
+    ensures size_4 { IsQueueSize 4 }
+    ensures size_8 { IsQueueSize 8 }
+    ensures size_16 { IsQueueSize 16 }
+    ensures size_32 { IsQueueSize 32 }
+    ensures size_64 { IsQueueSize 64 }
+    ensures size_128 { IsQueueSize 128 }
+    ensures size_256 { IsQueueSize 256 }
+    ensures size_512 { IsQueueSize 512 }
+    ensures size_1024 { IsQueueSize 1024 }
 {}

@@ -29,7 +29,7 @@ pub use driver_side::{BadUsed, DriverRing, Used};
 pub use faults::{NoRoom, Outside, PopError, RingFault};
 pub use laws::{
     driver_areas_are_allowed, offered_is_gathered, offered_is_popped,
-    powers_of_two_are_queue_sizes, pushed_is_taken, scattered_is_written,
+    powers_of_two_are_queue_sizes, pushed_is_taken, room_is_offered, scattered_is_written,
 };
 pub use memory::GuestMem;
 pub use transfers::{gather, gather_into, scatter};
