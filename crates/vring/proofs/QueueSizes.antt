@@ -1,5 +1,5 @@
 -- The sizes that a driver's ring may have.
-use Rattle.std.proofs.Common.{◌≡◌, refl, ◌≤◌, lit≤, true, ℕ}
+use Rattle.std.proofs.Common.{refl, lit≤}
 use lib.Count.{ones}
 use Rattle.vring.specs.Driver.{IsQueueSize}
 
