@@ -7,4 +7,4 @@ pub mod Chain
 pub mod Parts
 pub mod Ring
 pub mod Driver
-pub mod Laws
+pub mod BothSides

@@ -1,5 +1,5 @@
 ghost use Rattle.vring.specs.Driver.{IsQueueSize};
-ghost use Rattle.vring.specs.Laws.{OfferedIsPopped, OfferedIsGathered, PushedIsTaken, ScatteredIsWritten, RoomIsOffered, DriverAreasAreAllowed};
+ghost use Rattle.vring.specs.BothSides.{OfferedIsPopped, OfferedIsGathered, PushedIsTaken, ScatteredIsWritten, RoomIsOffered, DriverAreasAreAllowed};
 
 /// The chain that a driver offers is the one that the device pops which has seen as many: one
 /// readable piece of the offered bytes' number, one writable piece of the offered room.

@@ -3,10 +3,13 @@
 //! [`Ring`] is the device's side. It pops a [`Chain`] of descriptors, whose readable bytes
 //! [`gather`] gives and into whose writable pieces [`scatter`] writes, and pushes it into the used
 //! ring. Whatever stands in the memory, each call returns, and what is no chain is a [`RingFault`].
+//! [`DriverRing`] is the driver's side, which makes the memory, offers one chain at a time and takes
+//! it back. That each side reads what the other writes is said by laws, as [`offered_is_popped`]:
+//! functions that do nothing, whose clauses a caller has as facts.
 //!
 //! What the bytes of a memory mean stands in `specs/`: `Layout` says where the areas may lie,
 //! `Chain` which chain or which fault stands in a memory, `Pieces` what is gathered and scattered,
-//! `Ring` what the calls of the device's side do.
+//! `Ring` and `Driver` what the calls of each side do, `BothSides` what the laws say.
 #![tactic(auto)]
 
 mod chains;
