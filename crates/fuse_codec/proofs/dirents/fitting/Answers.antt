@@ -1,7 +1,7 @@
 use Rattle.std.proofs.Common.{◌≡◌, ◌+◌, length, get_or, take, refl, sym, ◌∙◌, ap, arith}
 use Rattle.fuse_codec.specs.declared.replies.Dirent.{Dirent}
 use Rattle.fuse_codec.specs.Dirents.{entry_len, dirents_len, fitting}
-use Rattle.fuse_codec.proofs.Fitting.{no_len, dirents_len_more, count_more, count_stops, count_end}
+use Rattle.fuse_codec.proofs.LongestPrefix.{no_len, dirents_len_more, count_more, count_stops, count_end}
 use Rattle.fuse_codec.proofs.dirents.fitting.Goals as goal
 
 pub loop-one-init : goal.loop-one-init

@@ -3,7 +3,7 @@ use Rattle.fuse_wire.specs.Layout.{clean}
 use Rattle.fuse_codec.specs.declared.replies.Dirent.{Dirent}
 use Rattle.fuse_codec.specs.Dirents.{entry_len, dirent_parts, SpellsDirent}
 use Rattle.fuse_codec.proofs.DirentLaws.{none_spelled}
-use Rattle.fuse_codec.proofs.Fitting.{put_more, spelled_more, room_left}
+use Rattle.fuse_codec.proofs.LongestPrefix.{put_more, spelled_more, room_left}
 use Rattle.fuse_codec.proofs.dirents.put_all.Goals as goal
 
 pub loop-one-init : goal.loop-one-init

@@ -1,7 +1,7 @@
 use Rattle.std.proofs.Common.{rules, ◌≡◌, length, ap, arith}
 use Rattle.fuse_codec.specs.Dirents.{clean_dirents, fitting}
 use Rattle.fuse_codec.proofs.DirentLaws.{one_list}
-use Rattle.fuse_codec.proofs.Fitting.{fitting_within, clean_dirents_len}
+use Rattle.fuse_codec.proofs.LongestPrefix.{fitting_within, clean_dirents_len}
 use Rattle.fuse_codec.proofs.dirents.put_dirents.Goals as goal
 
 pub returns-clause-within : goal.returns-clause-within

@@ -1,6 +1,6 @@
 use Rattle.std.proofs.Common.{arith}
 use Rattle.fuse_codec.specs.Dirents.{fitting}
-use Rattle.fuse_codec.proofs.Fitting.{fitting_prefix, fitting_within, fitting_longest, clean_dirents_len}
+use Rattle.fuse_codec.proofs.LongestPrefix.{fitting_prefix, fitting_within, fitting_longest, clean_dirents_len}
 use Rattle.fuse_codec.proofs.laws.fitting_is_the_longest_prefix.Goals as goal
 
 pub returns-clause-prefix : goal.returns-clause-prefix
