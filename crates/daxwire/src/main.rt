@@ -10,8 +10,12 @@
 
 mod frames;
 mod headers;
+#[cfg(test)]
+mod malformed_tests;
 mod pendings;
 mod responding;
+#[cfg(test)]
+mod run_tests;
 mod runs;
 mod shows;
 
