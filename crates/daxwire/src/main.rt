@@ -8,10 +8,14 @@
 //! status).
 #![tactic(auto)]
 
+#[cfg(test)]
+mod frame_tests;
 mod frames;
 mod headers;
 #[cfg(test)]
 mod malformed_tests;
+#[cfg(test)]
+mod pending_tests;
 mod pendings;
 mod responding;
 #[cfg(test)]

@@ -1,7 +1,5 @@
 ghost use Rattle.std.specs.Prelude.{◌<◌};
 
-use crate::frames::{Front, Reason, begins};
-use crate::pendings::{FillError, Pending};
 use crate::runs::run_wire;
 use dax_script::{MemSink, MemSource, Status, SureSink, SureSource, Word};
 use plain_file::{Blob, List, Memory};
@@ -482,68 +480,5 @@ fn nothing_fails_over_sure_ends(rt: HostRuntime) -> Result<(), Fail> {
     let mut source = SureSource::new(List::from_vec(stream));
     let status = run_wire(alloc, words.as_slice(), &mut source, &mut SureSink::new());
     assert_eq!(rt; status, Status::Ok);
-    Ok(())
-}
-
-#[test]
-fn bytes_begin_with_a_frame(rt: HostRuntime) -> Result<(), Fail> {
-    let alloc = rt.alloc();
-    for (bytes, front, len) in [
-        ("", Front::Nothing, 0),
-        ("01", Front::Cut, 0),
-        ("04", Front::Bad(Reason::Kind), 0),
-        ("01 0104 0000", Front::Bad(Reason::Bound), 0),
-        (
-            "01 0200 0100 01000000 02000000 50000000 aabbcc dd",
-            Front::Chain {
-                parts: 3,
-                readable: 3,
-                room: 80,
-            },
-            20,
-        ),
-        (
-            "02 0102030405060708 01020000 dd",
-            Front::Load {
-                moffset: 578_437_695_752_307_201,
-                len: 513,
-            },
-            13,
-        ),
-        (
-            "03 0001000000000000 02000000 aabb dd",
-            Front::Store {
-                moffset: 256,
-                len: 2,
-            },
-            15,
-        ),
-    ] {
-        let got = begins(&bytes_of(alloc, bytes)?);
-        assert_eq!(rt; got, front, "{bytes}");
-        assert_eq!(rt; got.len(), len, "{bytes}");
-    }
-    Ok(())
-}
-
-#[test]
-fn pending_bytes_come_and_go(rt: HostRuntime) -> Result<(), Fail> {
-    let alloc = rt.alloc();
-    let input = Blob::copy_of(alloc, b"abcdefg")?;
-    let mut source = MemSource::new(input, 4, calls(alloc, 3)?);
-    let mut pending = Pending::new(alloc);
-    assert_eq!(rt; pending.fill(&mut source), Ok(4));
-    assert_eq!(rt; pending.rest(), b"abcd".as_slice());
-    assert!(rt; pending.rest().len() == 4);
-    pending.advance(3);
-    assert_eq!(rt; pending.at(), 3);
-    assert_eq!(rt; pending.rest(), b"d".as_slice());
-    assert_eq!(rt; pending.fill(&mut source), Ok(3));
-    assert_eq!(rt; pending.rest(), b"defg".as_slice());
-    assert_eq!(rt; pending.fill(&mut source), Err(FillError::Failed));
-    assert_eq!(rt; pending.rest(), b"defg".as_slice());
-    assert_eq!(rt; pending.fill(&mut source), Ok(0));
-    assert_eq!(rt; pending.at(), 3);
-    assert_eq!(rt; pending.rest(), b"defg".as_slice());
     Ok(())
 }
