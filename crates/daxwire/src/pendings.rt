@@ -89,8 +89,10 @@ impl Pending {
         ensures failed { IsErrOf result FillError.Failed → Rose (S.faults source.old) (S.faults source.new) }
         ensures later { S.faults source.old ≤ S.faults source.new }
     {
-        remove_front(&mut self.bytes, self.start);
-        self.start = 0;
+        if self.start > 0 {
+            remove_front(&mut self.bytes, self.start);
+            self.start = 0;
+        }
         read_more(&mut self.bytes, source)
     }
 }
