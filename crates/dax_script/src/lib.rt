@@ -1,5 +1,5 @@
-//! The outside of the programs: what they read from and write to, how both fail, the two loops that
-//! read all and write all, and the exit statuses.
+//! The outside of the programs: their words, what they read from and write to, how both fail, the two
+//! loops that read all and write all, and the exit statuses.
 //!
 //! Code over `Source` and `Sink` is proved once, for the process's own streams and for bytes in
 //! memory alike. What they mean stands in their ghost members; the words of the clauses stand in
@@ -16,17 +16,14 @@ mod sure;
 #[cfg(test)]
 mod tests;
 mod traits;
+mod words;
 mod writes;
 
 pub use memory::{MemSink, MemSource};
-use plain_file::Blob;
 pub use reads::{ReadError, read_all};
 pub use statuses::Status;
 pub use std_streams::{StdSink, StdSource};
 pub use sure::{SureSink, SureSource};
 pub use traits::{Failed, Sink, Source};
+pub use words::{Word, command_words};
 pub use writes::write_all;
-
-/// The bytes of one word of the command line. The words of a command line don't have the program's
-/// name among them.
-pub type Word = Blob;

@@ -22,22 +22,14 @@ mod scripts;
 mod transcripts;
 mod words;
 
-use dax_script::{Status, StdSink, StdSource, Word};
-use plain_file::{Blob, List, Memory};
-use std::alloc::Global;
-use std::env::Args;
+use dax_script::{Status, StdSink, StdSource, command_words};
+use plain_file::Memory;
+use std::env;
 use std::process::ExitCode;
-use std::{env, io};
 
 fn main(rt: HostRuntime) -> ExitCode {
     let alloc = rt.alloc();
-    let words = match env::args(&rt) {
-        Ok(args) => command_words(alloc, args),
-        Err(error) if error.kind() == io::ErrorKind::OutOfMemory => Err(Memory),
-        // Words that can't be read are no command.
-        Err(_) => Ok(List::new(alloc)),
-    };
-    let status = match words {
+    let status = match command_words(alloc, env::args(&rt)) {
         Ok(words) => runs::run(
             alloc,
             words.as_slice(),
@@ -47,13 +39,4 @@ fn main(rt: HostRuntime) -> ExitCode {
         Err(Memory) => Status::Memory,
     };
     ExitCode::from(status.number())
-}
-
-// The words behind the program's name.
-fn command_words(alloc: Global, args: Args) -> Result<List<Word>, Memory> {
-    let mut words = List::new(alloc);
-    for arg in args.skip(1) {
-        words.push(Blob::copy_of(alloc, arg.as_bytes())?)?;
-    }
-    Ok(words)
 }
