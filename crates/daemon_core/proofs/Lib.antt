@@ -1,4 +1,5 @@
 pub mod Allowed
+pub mod Examples
 pub mod Decoding
 pub mod Laws
 pub mod Ready

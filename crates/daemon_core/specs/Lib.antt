@@ -2,3 +2,8 @@ pub mod Messages
 pub mod Replies
 pub mod Device
 pub mod Gives
+pub mod State
+pub mod Checks
+pub mod Entries
+pub mod Requests
+pub mod Steps

@@ -14,9 +14,12 @@
 
 mod device;
 mod message;
+mod refusals;
 mod reply;
+mod tables;
 
 pub use device::serve_first;
+pub use refusals::Refused;
 
 #[cfg(test)]
 mod tests;
