@@ -3,3 +3,4 @@ pub mod Examples
 pub mod Decoding
 pub mod Laws
 pub mod Ready
+pub mod Unlooks

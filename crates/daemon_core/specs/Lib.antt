@@ -7,3 +7,4 @@ pub mod Checks
 pub mod Entries
 pub mod Requests
 pub mod Steps
+pub mod Promises

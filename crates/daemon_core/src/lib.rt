@@ -12,12 +12,16 @@
 //! `proofs/Allowed.antt` that a board lets every read and write through.
 #![tactic(auto)]
 
+mod attributes;
+mod daemon;
 mod device;
 mod message;
 mod refusals;
 mod reply;
+mod sessions;
 mod tables;
 
+pub use daemon::Daemon;
 pub use device::serve_first;
 pub use refusals::Refused;
 

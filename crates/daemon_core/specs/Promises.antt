@@ -1,0 +1,31 @@
+-- The forms of the device's contracts, and what they ask of the boards.
+use Rattle.std.specs.Prelude.{◌≡◌, ℕ, ◌+◌, ◌<◌, ◌≤◌, true, List, length, Result, Ok, Err}
+use Rattle.fuse_codec.specs.Grammar.{max_transfer}
+use Rattle.fuse_codec.specs.Replies.{is_reply, reply_len}
+use Rattle.fuse_codec.specs.declared.replies.Reply.{Reply}
+use Rattle.page_map.specs.Board.{MapView}
+use Rattle.plain_file.specs.Board.{BoardView, IsReady}
+use Rattle.daemon_core.specs.declared.refusals.Refused.{Refused}
+use Rattle.daemon_core.specs.declared.refusals.Refused.TheVariants as refusals
+use Rattle.daemon_core.specs.State.{State, World}
+use Rattle.daemon_core.specs.Checks.{Outcome}
+
+-- a device with boards
+abbrev pub world : State → BoardView → MapView → World
+world s files map = record { state = s; files = files; map = map }
+
+-- the defined reply or error, and what it leaves; want of memory changes nothing
+abbrev pub Gives : World → Outcome → Result Reply Refused → World → Type 0
+Gives old o (Ok reply) new = o ≡ (Ok reply, new)
+Gives old o (Err (refusals.Errno e)) new = (o ≡ (Err e, old)) × (new ≡ old)
+Gives old o (Err refusals.Memory) new = new ≡ old
+
+-- a reply goes over the wire, and takes at most so many bytes with its header
+pub record IsWithin (room : ℕ) (reply : Reply) : Type 0 where
+  pub good : is_reply reply ≡ true
+  pub fits : reply_len reply ≤ room
+
+-- The board has every made file, ready.
+pub record HasFiles (s : State) (v : BoardView) : Type 0 where
+  pub there : length s.made ≤ length v.files
+  pub ready : (file : ℕ) → file < length s.made → IsReady v file
