@@ -15,11 +15,13 @@
 mod attributes;
 mod daemon;
 mod device;
+mod handles;
 mod message;
 mod refusals;
 mod reply;
 mod sessions;
 mod tables;
+mod transfers;
 
 pub use daemon::Daemon;
 pub use device::serve_first;
