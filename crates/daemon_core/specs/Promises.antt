@@ -29,3 +29,7 @@ pub record IsWithin (room : ℕ) (reply : Reply) : Type 0 where
 pub record HasFiles (s : State) (v : BoardView) : Type 0 where
   pub there : length s.made ≤ length v.files
   pub ready : (file : ℕ) → file < length s.made → IsReady v file
+
+-- While fewer than 16 are made, the board has the next one too, ready.
+abbrev pub HasNext : State → BoardView → Type 0
+HasNext s v = length s.made < 16 → (length s.made < length v.files) × IsReady v (length s.made)

@@ -42,9 +42,9 @@ reply_to (Err e) = gives.Error (pos (errno_number e))
 abbrev pub replied : ℕ → Outcome → Step
 replied unique o = (o.1, clean_reply unique (reply_to o.0))
 
--- the room that a request's reply wants; a request without a reply wants none
+-- the room that a request's reply wants; for a request without a reply, that of a reply without a body
 abbrev pub wanted_room : Request → ℕ
-wanted_room q = unwrap_or (room_of q) 0
+wanted_room q = unwrap_or (room_of q) 16
 
 -- Steps 8 to 10: the session, the room for the reply, then what the request means.
 unfoldable pub judged_message : World → ℕ → Message → Outcome

@@ -13,9 +13,6 @@ use plain_file::{List, Memory, Name};
 use std::alloc::Global;
 use std::marker::Model;
 
-// How many files are made at most.
-const MAX_FILES: usize = 16;
-
 // How many handles are open at most.
 const MAX_OPENED: usize = 1024;
 
@@ -154,6 +151,15 @@ impl Daemon {
         ensures few { length self.now.made ≤ 16 }
     {
         self.made.len()
+    }
+
+    // The number of a made file.
+    pub(crate) fn number_of(&self, i: usize) -> u32
+        requires { i < length self.now.made }
+        ensures { result ≡ i }
+    {
+        let _ = &self.made;
+        i as u32
     }
 
     // The attributes of a file of this size.

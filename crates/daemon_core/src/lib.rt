@@ -17,6 +17,7 @@ mod daemon;
 mod device;
 mod handles;
 mod message;
+mod naming;
 mod refusals;
 mod reply;
 mod sessions;
