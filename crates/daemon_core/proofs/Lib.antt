@@ -4,3 +4,4 @@ pub mod Decoding
 pub mod Laws
 pub mod Ready
 pub mod Unlooks
+pub mod Clears

@@ -1,9 +1,8 @@
 -- The forms of the device's contracts, and what they ask of the boards.
-use Rattle.std.specs.Prelude.{◌≡◌, ℕ, ◌+◌, ◌<◌, ◌≤◌, true, List, length, Result, Ok, Err}
-use Rattle.fuse_codec.specs.Grammar.{max_transfer}
+use Rattle.std.specs.Prelude.{◌≡◌, ℕ, ◌*◌, ◌<◌, ◌≤◌, true, List, length, Result, Ok, Err}
 use Rattle.fuse_codec.specs.Replies.{is_reply, reply_len}
 use Rattle.fuse_codec.specs.declared.replies.Reply.{Reply}
-use Rattle.page_map.specs.Board.{MapView}
+use Rattle.page_map.specs.Board.{MapView, may_clear}
 use Rattle.plain_file.specs.Board.{BoardView, IsReady}
 use Rattle.daemon_core.specs.declared.refusals.Refused.{Refused}
 use Rattle.daemon_core.specs.declared.refusals.Refused.TheVariants as refusals
@@ -33,3 +32,7 @@ pub record HasFiles (s : State) (v : BoardView) : Type 0 where
 -- While fewer than 16 are made, the board has the next one too, ready.
 abbrev pub HasNext : State → BoardView → Type 0
 HasNext s v = length s.made < 16 → (length s.made < length v.files) × IsReady v (length s.made)
+
+-- The board lets the whole window be cleared, where it has pages.
+abbrev pub MayClearAll : State → MapView → Type 0
+MayClearAll s v = 0 < s.pages → may_clear v 0 (4096 * s.pages) ≡ true

@@ -1,0 +1,14 @@
+use Rattle.std.proofs.Common.{◌≡◌, length}
+use Rattle.daemon_core.specs.State.{all_cleared}
+use Rattle.daemon_core.proofs.Clears.{AreClearable}
+use Rattle.daemon_core.proofs.mappings.clear_all.Given as goal
+
+abbrev pub invariant-loop-one : goal.invariant-loop-one
+invariant-loop-one g l = record {
+  cleared : all_cleared (g.M.MapBoard.map l.map) l.rest ≡ all_cleared (g.M.MapBoard.map l.fn.map) l.ones;
+  pages : length (g.M.MapBoard.map l.map).table ≡ length (g.M.MapBoard.map l.fn.map).table;
+  clearable : AreClearable (g.M.MapBoard.map l.map) l.rest;
+}
+
+abbrev pub decreases-loop-one : goal.decreases-loop-one
+decreases-loop-one g l = length l.rest
