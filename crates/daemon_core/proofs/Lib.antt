@@ -5,3 +5,4 @@ pub mod Laws
 pub mod Ready
 pub mod Unlooks
 pub mod Clears
+pub mod Numbering

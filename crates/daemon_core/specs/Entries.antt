@@ -1,5 +1,8 @@
 -- What the device tells of a session, of its nodes and of its directory.
-use Rattle.std.specs.Prelude.{ℕ, ◌+◌, ◌/◌, ◌==◌, Bool, false, true, ◌||◌, ◌&&◌, nat_lt, List, [], ◌∷◌, drop, Option, Some, None, is_some, bit_and, if◌then◌else◌}
+use Rattle.std.specs.List.{insert}
+use Rattle.std.specs.Ordering.{is_lt, nat_cmp}
+use Rattle.std.specs.Cmp.Lexicographic.{slice_cmp}
+use Rattle.std.specs.Prelude.{position, length, unwrap_or, ℕ, ◌+◌, ◌/◌, ◌==◌, Bool, false, true, ◌||◌, ◌&&◌, nat_lt, List, [], ◌∷◌, drop, Option, Some, None, is_some, bit_and, if◌then◌else◌}
 use Rattle.fuse_codec.specs.declared.replies.Dirent.{Dirent}
 use Rattle.fuse_codec.specs.Dirents.{fitting, clean_dirents}
 use Rattle.fuse_wire.specs.declared.attributes.AttrRec.{AttrRec}
@@ -50,41 +53,40 @@ open_out_of s = record { fh = s.next_fh; open_flags = 0 }
 
 -- ---- the directory
 
--- a named file
-pub record Row : Type 0 where
-  pub name : List ℕ
-  pub node : ℕ
-
 -- byte order of names
-abbrev pub name_lt : List ℕ → List ℕ → Bool
-name_lt [] [] = false
-name_lt [] (y ∷ ys) = true
-name_lt (x ∷ xs) [] = false
-name_lt (x ∷ xs) (y ∷ ys) = nat_lt x y || (x == y && name_lt xs ys)
+abbrev pub is_before : List ℕ → List ℕ → Bool
+is_before a b = is_lt (slice_cmp nat_cmp a b)
 
--- a row at its place in the byte order of names
-abbrev pub put_in : Row → List Row → List Row
-put_in r [] = r ∷ []
-put_in r (q ∷ rows) = if name_lt r.name q.name then r ∷ q ∷ rows else q ∷ put_in r rows
+-- an entry's name is greater than this one
+abbrev pub is_after : List ℕ → Dirent → Bool
+is_after name d = is_before name d.name
 
--- a file's row, where it has a name
-abbrev pub with_row : Option (List ℕ) → ℕ → List Row → List Row
-with_row None node rows = rows
-with_row (Some name) node rows = put_in (record { name = name; node = node }) rows
+-- the place of a name among entries in byte order: before the first with a greater name, else at the end
+abbrev pub place_among : List Dirent → List ℕ → ℕ
+place_among ds name = unwrap_or (position (is_after name) ds) (length ds)
 
--- the named files in byte order of their names, where the first file has this node
-abbrev pub rows_from : ℕ → List MadeFile → List Row
-rows_from node [] = []
-rows_from node (f ∷ fs) = with_row f.name node (rows_from (node + 1) fs)
+-- the entry of a named file, without its number; kind 8 is a regular file's
+abbrev pub entry_named : List ℕ → ℕ → Dirent
+entry_named name node = record { ino = node; off = 0; kind = 8; name = name }
 
--- the entries of rows, the first with this number as its offset; kind 8 is a regular file's
-abbrev pub numbered_from : ℕ → List Row → List Dirent
+-- entries with that of one more file, where it has a name
+abbrev pub with_entry : Option (List ℕ) → ℕ → List Dirent → List Dirent
+with_entry None node ds = ds
+with_entry (Some name) node ds = insert ds (place_among ds name) (entry_named name node)
+
+-- entries with those of more files, the first of which has this node
+abbrev pub with_entries : List Dirent → ℕ → List MadeFile → List Dirent
+with_entries ds node [] = ds
+with_entries ds node (f ∷ fs) = with_entries (with_entry f.name node ds) (node + 1) fs
+
+-- entries numbered in their order
+abbrev pub numbered_from : ℕ → List Dirent → List Dirent
 numbered_from off [] = []
-numbered_from off (r ∷ rows) = record { ino = r.node; off = off; kind = 8; name = r.name } ∷ numbered_from (off + 1) rows
+numbered_from off (d ∷ ds) = record d { off = off } ∷ numbered_from (off + 1) ds
 
--- the directory's entries, numbered from 1
+-- the named files in byte order of their names, numbered from 1
 unfoldable pub entries : State → List Dirent
-entries s = numbered_from 1 (rows_from 2 s.made)
+entries s = numbered_from 1 (with_entries [] 2 s.made)
 
 -- the longest prefix, of the entries after so many, that has at most so many bytes
 abbrev pub listed : State → ℕ → ℕ → List ℕ

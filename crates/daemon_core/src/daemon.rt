@@ -146,6 +146,13 @@ impl Daemon {
         self.made.iter().position(|f| has_name(f, name))
     }
 
+    pub(crate) fn made(&self) -> &[MadeFile]
+        ensures value { result.now ≡ self.now.made }
+        ensures few { length self.now.made ≤ 16 }
+    {
+        self.made.as_slice()
+    }
+
     pub(crate) fn count(&self) -> usize
         ensures value { result ≡ length self.now.made }
         ensures few { length self.now.made ≤ 16 }

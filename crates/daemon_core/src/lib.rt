@@ -16,6 +16,7 @@ mod attributes;
 mod daemon;
 mod device;
 mod handles;
+mod listing;
 mod mappings;
 mod message;
 mod naming;
