@@ -6,3 +6,4 @@ pub mod Ready
 pub mod Unlooks
 pub mod Clears
 pub mod Numbering
+pub mod Decoded

@@ -1,5 +1,5 @@
 -- Entries that are numbered one after another.
-use Rattle.std.proofs.Common.{◌≡◌, ◌∙◌, ap, refl, ℕ, zero, suc, ◌+◌, ◌<◌, List, [], ◌∷◌, ◌++◌, length, take, drop, slice_index_or, slice_set, arith}
+use Rattle.std.proofs.Common.{◌≡◌, ◌∙◌, ap, ℕ, zero, suc, ◌+◌, ◌<◌, List, [], ◌∷◌, ◌++◌, length, take, drop, slice_index_or, slice_set, arith}
 use Rattle.fuse_codec.specs.declared.replies.Dirent.{Dirent}
 use Rattle.daemon_core.specs.Entries.{numbered_from}
 

@@ -2,7 +2,7 @@
 use Rattle.std.specs.List.{insert}
 use Rattle.std.specs.Ordering.{is_lt, nat_cmp}
 use Rattle.std.specs.Cmp.Lexicographic.{slice_cmp}
-use Rattle.std.specs.Prelude.{position, length, unwrap_or, ℕ, ◌+◌, ◌/◌, ◌==◌, Bool, false, true, ◌||◌, ◌&&◌, nat_lt, List, [], ◌∷◌, drop, Option, Some, None, is_some, bit_and, if◌then◌else◌}
+use Rattle.std.specs.Prelude.{position, length, unwrap_or, ℕ, ◌+◌, ◌/◌, ◌==◌, Bool, List, [], ◌∷◌, drop, Option, Some, None, is_some, bit_and, if◌then◌else◌}
 use Rattle.fuse_codec.specs.declared.replies.Dirent.{Dirent}
 use Rattle.fuse_codec.specs.Dirents.{fitting, clean_dirents}
 use Rattle.fuse_wire.specs.declared.attributes.AttrRec.{AttrRec}

@@ -1,13 +1,19 @@
 -- The forms of the device's contracts, and what they ask of the boards.
 use Rattle.std.specs.Prelude.{◌≡◌, ℕ, ◌*◌, ◌<◌, ◌≤◌, true, List, length, Result, Ok, Err}
 use Rattle.fuse_codec.specs.Replies.{is_reply, reply_len}
+use Rattle.fuse_codec.specs.Reading.{message_of}
+use Rattle.fuse_codec.specs.declared.messages.Message.{Message}
+use Rattle.fuse_codec.specs.declared.messages.Request.{Request}
+use Rattle.fuse_codec.specs.declared.messages.Request.TheVariants as asks
 use Rattle.fuse_codec.specs.declared.replies.Reply.{Reply}
 use Rattle.page_map.specs.Board.{MapView, may_clear}
 use Rattle.plain_file.specs.Board.{BoardView, IsReady}
+use Rattle.plain_file.specs.declared.refusals.Memory.{Memory}
 use Rattle.daemon_core.specs.declared.refusals.Refused.{Refused}
 use Rattle.daemon_core.specs.declared.refusals.Refused.TheVariants as refusals
 use Rattle.daemon_core.specs.State.{State, World}
 use Rattle.daemon_core.specs.Checks.{Outcome}
+use Rattle.daemon_core.specs.Steps.{Step}
 
 -- a device with boards
 abbrev pub world : State → BoardView → MapView → World
@@ -36,3 +42,24 @@ HasNext s v = length s.made < 16 → (length s.made < length v.files) × IsReady
 -- The board lets the whole window be cleared, where it has pages.
 abbrev pub MayClearAll : State → MapView → Type 0
 MayClearAll s v = 0 < s.pages → may_clear v 0 (4096 * s.pages) ≡ true
+
+-- What one request asks of the boards besides.
+unfoldable pub Needs : State → BoardView → MapView → Request → Type 0
+Needs s files map (asks.Create r name) = HasNext s files
+Needs s files map asks.Destroy = MayClearAll s map
+Needs s files map request = Unit {0}
+
+-- The boards are those of the device, and ready for this request.
+pub record CanServe (s : State) (files : BoardView) (map : MapView) (request : Request) : Type 0 where
+  pub made : HasFiles s files
+  pub pages : length map.table ≡ s.pages
+  pub needs : Needs s files map request
+
+-- The same, where bytes are a request.
+abbrev pub CanStep : State → BoardView → MapView → List ℕ → Type 0
+CanStep s files map readable = (m : Message) → message_of readable ≡ Ok m → CanServe s files map m.body
+
+-- the defined bytes and what they leave; want of memory changes nothing
+abbrev pub Steps : World → Step → Result (List ℕ) Memory → World → Type 0
+Steps old step (Ok bytes) new = step ≡ (new, bytes)
+Steps old step (Err e) new = new ≡ old

@@ -22,7 +22,9 @@ mod message;
 mod naming;
 mod refusals;
 mod reply;
+mod serving;
 mod sessions;
+mod steps;
 mod tables;
 mod transfers;
 

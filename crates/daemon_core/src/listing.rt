@@ -19,12 +19,7 @@ const REGULAR: u32 = 8;
 impl Daemon {
     // READDIR.
     #[tactic(auto, unfolding(crate::specs::Requests::read_dir, fuse_codec::specs::Replies::reply_parts, fuse_codec::specs::Replies::is_reply))]
-    pub(crate) fn read_dir(
-        &self,
-        alloc: Global,
-        node: u64,
-        r: &ReadIn,
-    ) -> Result<Reply, Refused>
+    pub(crate) fn read_dir(&self, alloc: Global, node: u64, r: &ReadIn) -> Result<Reply, Refused>
         ensures answer { (files : BoardView) (map : MapView) → Gives (world self.now files map) (read_dir (world self.now files map) node r.now) result (world self.now files map) }
         ensures room { IfOk result (λ reply. IsWithin (16 + r.now.size) reply) }
     {

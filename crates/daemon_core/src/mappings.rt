@@ -107,10 +107,7 @@ fn is_whole(pages: u32, moffset: u64, len: u64) -> bool
 fn is_bad_setup(pages: u32, r: &SetupIn) -> bool
     ensures { result ≡ is_bad_setup pages r.now }
 {
-    r.flags == 0
-        || r.flags > 3
-        || r.foffset % PAGE_SIZE != 0
-        || !is_whole(pages, r.moffset, r.len)
+    r.flags == 0 || r.flags > 3 || r.foffset % PAGE_SIZE != 0 || !is_whole(pages, r.moffset, r.len)
 }
 
 // What is mapped.
@@ -130,8 +127,7 @@ fn span_of(node: u64, r: &SetupIn) -> Span
 fn all_whole(pages: u32, ones: &[RemoveOne]) -> bool
     ensures { result ≡ list_all (λ one. is_whole pages one.moffset one.len) ones.now }
 {
-    ones.iter()
-        .all(|one| is_whole(pages, one.moffset, one.len))
+    ones.iter().all(|one| is_whole(pages, one.moffset, one.len))
 }
 
 fn all_clear<M: MapBoard>(map: &M, ones: &[RemoveOne]) -> bool

@@ -1,0 +1,231 @@
+ghost use Rattle.std.specs.Prelude.{◌≡◌, ◌≤◌, [], length, true, Err, vec_capacity, IfOk, OnOk, OnErr};
+ghost use Rattle.fuse_codec.specs.Grammar.{max_part, is_bounded};
+ghost use Rattle.fuse_codec.specs.Reading.{message_of};
+ghost use Rattle.fuse_codec.specs.Replies.{clean_reply};
+ghost use Rattle.daemon_core.specs.Steps.{wanted_room, errno_of, reply_to, is_forget_number, header_at, judged_message, judged, forgot, replied, device_step};
+ghost use Rattle.daemon_core.specs.Promises.{Gives, IsWithin, CanServe, CanStep, Steps, world};
+
+use crate::daemon::Daemon;
+use crate::refusals::Refused;
+use crate::serving::is_init;
+use fuse_codec::{BadRequest, MAX_TRANSFER, Message, Reply, Request, decode_request, put_reply};
+use fuse_wire::{Errno, InHeader, OutHeader};
+use page_map::MapBoard;
+use plain_file::{Blob, FileBoard, Memory};
+use std::alloc::Global;
+
+// The most bytes that a reply takes with its header.
+const MAX_REPLY: u64 = OutHeader::SIZE as u64 + MAX_TRANSFER as u64;
+
+impl Daemon {
+    // Judges the session and the room for the reply, then serves the request.
+    #[tactic(auto, unfolding(crate::specs::Steps::judged_message))]
+    fn judge<F: FileBoard, M: MapBoard>(
+        &mut self,
+        alloc: Global,
+        message: Message,
+        room: u32,
+        files: &mut F,
+        map: &mut M,
+    ) -> Result<Reply, Refused>
+        requires bounded { is_bounded message.body ≡ true }
+        requires boards { CanServe self.old (F.board files.old) (M.map map.old) message.body }
+        ensures answer { Gives (world self.old (F.board files.old) (M.map map.old)) (judged_message (world self.old (F.board files.old) (M.map map.old)) room message) result (world self.new (F.board files.new) (M.map map.new)) }
+        ensures room { IfOk result (λ reply. IsWithin (wanted_room message.body) reply) }
+    {
+        if !self.is_started() && !is_init(&message.body) {
+            return Err(Refused::Errno(Errno::EIO));
+        }
+        if (room as u64) < wanted_room(&message.body) {
+            return Err(Refused::Errno(Errno::EINVAL));
+        }
+        self.serve(alloc, message, files, map)
+    }
+
+    // The bytes that answer a request. They have their place before anything is done.
+    #[tactic(auto, using(fuse_codec::proofs::CleanReplies::reply_bound), unfolding(crate::specs::Steps::reply_to))]
+    fn answer_message<F: FileBoard, M: MapBoard>(
+        &mut self,
+        alloc: Global,
+        unique: u64,
+        message: Message,
+        room: u32,
+        files: &mut F,
+        map: &mut M,
+    ) -> Result<Blob, Memory>
+        requires bounded { is_bounded message.body ≡ true }
+        requires boards { CanServe self.old (F.board files.old) (M.map map.old) message.body }
+        ensures { Steps (world self.old (F.board files.old) (M.map map.old)) (replied unique (judged_message (world self.old (F.board files.old) (M.map map.old)) room message)) result (world self.new (F.board files.new) (M.map map.new)) }
+    {
+        let most = wanted_room(&message.body).min(MAX_REPLY);
+        let mut out = Vec::with_capacity(alloc, most as usize)?;
+        match self.judge(alloc, message, room, files, map) {
+            Ok(reply) => put_reply(&mut out, &reply, unique),
+            Err(Refused::Errno(error)) => put_error(&mut out, error, unique),
+            Err(Refused::Memory) => return Err(Memory),
+        }
+        Ok(Blob::from_vec(out))
+    }
+
+    // Decodes, judges and replies.
+    #[tactic(auto, using(crate::proofs::Decoded::decoded_bounded))]
+    fn reply_chain<F: FileBoard, M: MapBoard>(
+        &mut self,
+        alloc: Global,
+        unique: u64,
+        readable: &[u8],
+        room: u32,
+        files: &mut F,
+        map: &mut M,
+    ) -> Result<Blob, Memory>
+        requires within { length readable.now ≤ max_part }
+        requires boards { CanStep self.old (F.board files.old) (M.map map.old) readable.now }
+        ensures { Steps (world self.old (F.board files.old) (M.map map.old)) (replied unique (judged (world self.old (F.board files.old) (M.map map.old)) room (message_of readable.now))) result (world self.new (F.board files.new) (M.map map.new)) }
+    {
+        match decode_request(alloc, readable) {
+            Ok(message) => self.answer_message(alloc, unique, message, room, files, map),
+            Err(BadRequest::Memory) => Err(Memory),
+            Err(bad) => refusal(alloc, errno_of(bad), unique),
+        }
+    }
+
+    // Carries out what has no reply.
+    #[tactic(auto, using(crate::proofs::Decoded::decoded_bounded))]
+    fn forget_chain<F: FileBoard, M: MapBoard>(
+        &mut self,
+        alloc: Global,
+        readable: &[u8],
+        files: &mut F,
+        map: &mut M,
+    ) -> Result<(), Memory>
+        requires within { length readable.now ≤ max_part }
+        requires boards { CanStep self.old (F.board files.old) (M.map map.old) readable.now }
+        ensures ok { OnOk result (world self.new (F.board files.new) (M.map map.new) ≡ forgot (world self.old (F.board files.old) (M.map map.old)) (message_of readable.now)) }
+        ensures err { OnErr result (world self.new (F.board files.new) (M.map map.new) ≡ world self.old (F.board files.old) (M.map map.old)) }
+    {
+        match decode_request(alloc, readable) {
+            Ok(message) => match self.serve(alloc, message, files, map) {
+                Err(Refused::Memory) => Err(Memory),
+                Ok(_) | Err(Refused::Errno(_)) => Ok(()),
+            },
+            Err(BadRequest::Memory) => Err(Memory),
+            Err(_) => Ok(()),
+        }
+    }
+
+    /// Serves one chain of a virtio-fs queue. `readable` is its readable part, of at most `MAX_PART`
+    /// bytes, and `room` is how many bytes its writable part has. The answer goes into the writable
+    /// part from its front; no bytes mean that nothing is written.
+    ///
+    /// The first of these that is true decides:
+    ///
+    /// 1. `readable` is shorter than 40 bytes: no bytes, and nothing is done.
+    /// 2. The opcode is FORGET (2) or BATCH_FORGET (42): no bytes. It is carried out where it is well
+    ///    formed and the session is started.
+    /// 3. `room` is below 16: no bytes, and nothing is done.
+    /// 4. `len` of the header differs from the length of `readable`: `EINVAL`.
+    /// 5. `total_extlen` isn't 0: `EINVAL`.
+    /// 6. No operation has the opcode: `ENOSYS`.
+    /// 7. The body isn't one of the operation's grammar: `EINVAL`.
+    /// 8. The session isn't started, and the request isn't an INIT: `EIO`.
+    /// 9. `room` is less than `Request::room` says: `EINVAL`.
+    /// 10. One of the request's own checks fails: its error, as [`serve`](Daemon::serve) gives it.
+    ///
+    /// Otherwise the request is carried out, and the bytes are its reply. An error is a
+    /// `fuse_out_header` alone, with the negative number; nothing has changed then. Both have the
+    /// request's `unique`.
+    ///
+    /// Where the bytes are a request, the conditions of [`serve`](Daemon::serve) on the files and the
+    /// map hold. `Memory` comes only from a refused allocation. Room for the reply is had before
+    /// anything is done, so nothing has changed then.
+    #[tactic(auto, unfolding(crate::specs::Steps::device_step))]
+    pub fn serve_chain<F: FileBoard, M: MapBoard>(
+        &mut self,
+        alloc: Global,
+        readable: &[u8],
+        room: u32,
+        files: &mut F,
+        map: &mut M,
+    ) -> Result<Blob, Memory>
+        requires within { length readable.now ≤ max_part }
+        requires boards { CanStep self.old (F.board files.old) (M.map map.old) readable.now }
+        ensures reply { IfOk result (λ b. b ≡ (device_step (world self.old (F.board files.old) (M.map map.old)) readable.now room).1) }
+        ensures step { OnOk result (world self.new (F.board files.new) (M.map map.new) ≡ (device_step (world self.old (F.board files.old) (M.map map.old)) readable.now room).0) }
+        ensures memory { OnErr result (world self.new (F.board files.new) (M.map map.new) ≡ world self.old (F.board files.old) (M.map map.old)) }
+    {
+        if readable.len() < InHeader::SIZE {
+            return Ok(Blob::new(alloc));
+        }
+        let header = header_at(readable);
+        if is_forget_number(header.opcode) {
+            self.forget_chain(alloc, readable, files, map)?;
+            return Ok(Blob::new(alloc));
+        }
+        if (room as usize) < OutHeader::SIZE {
+            return Ok(Blob::new(alloc));
+        }
+        self.reply_chain(alloc, header.unique, readable, room, files, map)
+    }
+}
+
+// The header at the front of the readable bytes.
+#[tactic(auto, unfolding(fuse_wire::specs::Records::in_header_of))]
+fn header_at(readable: &[u8]) -> InHeader
+    requires { 40 ≤ length readable.now }
+    ensures { result ≡ header_at readable.now }
+{
+    InHeader::read(readable.split_at(InHeader::SIZE).0).unwrap()
+}
+
+// Whether an opcode is that of a forget.
+#[tactic(auto, unfolding(fuse_codec::specs::Opcodes::number))]
+fn is_forget_number(opcode: u32) -> bool
+    ensures { result ≡ is_forget_number opcode }
+{
+    opcode == 2 || opcode == 42
+}
+
+// The room that a request's reply wants.
+#[tactic(auto, unfolding(fuse_codec::specs::Grammar::form_room))]
+fn wanted_room(body: &Request) -> u64
+    ensures value { result ≡ wanted_room body.now }
+    ensures least { 16 ≤ result }
+{
+    body.room().unwrap_or(16)
+}
+
+// The error that answers bytes which are no request.
+#[tactic(auto, unfolding(crate::specs::Steps::errno_of))]
+fn errno_of(bad: BadRequest) -> Errno
+    ensures { result ≡ errno_of bad }
+{
+    match bad {
+        BadRequest::Opcode { .. } => Errno::ENOSYS,
+        BadRequest::Short
+        | BadRequest::Length { .. }
+        | BadRequest::Extended { .. }
+        | BadRequest::Body { .. }
+        | BadRequest::Memory => Errno::EINVAL,
+    }
+}
+
+// Puts an error into room that is there.
+#[tactic(auto, unfolding(crate::specs::Steps::reply_to, fuse_codec::specs::Replies::reply_parts, fuse_codec::specs::Replies::is_reply))]
+fn put_error(out: &mut Vec<u8>, error: Errno, unique: u64)
+    requires room { 16 ≤ vec_capacity out.old }
+    requires empty { out.old.items ≡ [] }
+    ensures { out.new.items ≡ clean_reply unique (reply_to (Err error)) }
+{
+    let reply = Reply::Error {
+        number: error.number(),
+    };
+    put_reply(out, &reply, unique);
+}
+
+fn refusal(alloc: Global, error: Errno, unique: u64) -> Result<Blob, Memory>
+    ensures { IfOk result (λ b. b ≡ clean_reply unique (reply_to (Err error))) }
+{
+    let mut out = Vec::with_capacity(alloc, OutHeader::SIZE)?;
+    put_error(&mut out, error, unique);
+    Ok(Blob::from_vec(out))
+}
