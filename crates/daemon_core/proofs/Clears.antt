@@ -12,11 +12,11 @@ pub record AreClearable (v : MapView) (ones : List RemoveOne) : Type 0 where
   pub whole : list_all (λ one. is_whole (length v.table) one.moffset one.len) ones ≡ true
   pub may : list_all (λ one. may_clear v one.moffset one.len) ones ≡ true
 
-first_of_both : (a b : Bool) → a && b ≡ true → a ≡ true
+pub first_of_both : (a b : Bool) → a && b ≡ true → a ≡ true
 first_of_both true b h = refl
 first_of_both false b h = absurd (true≢false (sym h))
 
-rest_of_both : (a b : Bool) → a && b ≡ true → b ≡ true
+pub rest_of_both : (a b : Bool) → a && b ≡ true → b ≡ true
 rest_of_both true b h = h
 rest_of_both false b h = absurd (true≢false (sym h))
 

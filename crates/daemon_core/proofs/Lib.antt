@@ -7,3 +7,4 @@ pub mod Unlooks
 pub mod Clears
 pub mod Numbering
 pub mod Decoded
+pub mod Servable

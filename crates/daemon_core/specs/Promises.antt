@@ -63,3 +63,12 @@ CanStep s files map readable = (m : Message) → message_of readable ≡ Ok m �
 abbrev pub Steps : World → Step → Result (List ℕ) Memory → World → Type 0
 Steps old step (Ok bytes) new = step ≡ (new, bytes)
 Steps old step (Err e) new = new ≡ old
+
+-- Boards that one caller has for itself: 16 plain files or more, all ready, and the plain map of a window of the device's pages. Any request can be served over them.
+pub record IsServable (w : World) : Type 0 where
+  pub plain : w.files.plain ≡ true
+  pub enough : 16 ≤ length w.files.files
+  pub ready : (file : ℕ) → file < length w.files.files → IsReady w.files file
+  pub few : length w.state.made ≤ 16
+  pub free : w.map.plain ≡ true
+  pub pages : length w.map.table ≡ w.state.pages
