@@ -3,7 +3,8 @@ use Rattle.std.proofs.Common.{◌≡◌, ◌∙◌, sym, refl, arith, ◌<◌, �
 use Rattle.std.proofs.lemmas.Bool.{cases_eq}
 use Rattle.std.proofs.lemmas.Grind.{common_steps}
 use Rattle.std.proofs.lemmas.List.{length-map, length-replicate, length-append, get_or-set_same, get_or-set_other}
-use Rattle.std.specs.List.{list_all}
+use Rattle.std.specs.List.{list_all, IsDistinct}
+use Rattle.std.specs.Str.{bytes_eq}
 use Rattle.fuse_codec.specs.Reading.{message_of}
 use Rattle.fuse_codec.specs.declared.errors.BadRequest.{BadRequest}
 use Rattle.fuse_codec.specs.declared.messages.Message.{Message}
@@ -99,13 +100,21 @@ attr_keeps w node h = search (if_keeps, applies_keeps, serves, h)
 -- the window after a part of it was cleared or set
 wiped_keeps : (w : World) (moffset len : ℕ) → IsServable w → is_whole w.state.pages moffset len ≡ true → IsServable (record w { map = wiped w.map moffset len })
 wiped_keeps w moffset len h whole = record {
-  plain = h.plain; enough = h.enough; ready = h.ready; few = h.few; free = h.free;
+  plain = h.plain;
+  enough = h.enough;
+  ready = h.ready;
+  few = h.few;
+  free = h.free;
   pages = wiped_len w.map (wiped w.map moffset len) moffset len w.state.pages h.pages whole refl ∙ h.pages;
 }
 
 painted_keeps : (w : World) (s : Span) → IsServable w → is_whole w.state.pages s.moffset s.len ≡ true → IsServable (record w { map = painted w.map s })
 painted_keeps w s h whole = record {
-  plain = h.plain; enough = h.enough; ready = h.ready; few = h.few; free = h.free;
+  plain = h.plain;
+  enough = h.enough;
+  ready = h.ready;
+  few = h.few;
+  free = h.free;
   pages = painted_len w.map (painted w.map s) s w.state.pages h.pages whole refl ∙ h.pages;
 }
 
@@ -190,7 +199,7 @@ created_keeps : (i : Option ℕ) (exclusive : Bool) (w : World) (name : List ℕ
 created_keeps (Some i) exclusive w name h = search (refuse_keeps, entry_keeps, h)
 created_keeps None exclusive w name h =
     if_keeps_by (not (nat_lt (length w.state.made) 16)) (Err ENOSPC, w) (if_may_open w (makes_entry w name)) (record { after = h })
-        (λ e. refuse_keeps (not (may_open w.state)) EMFILE w (makes_entry w name) h (new_keeps w name h (is_few (length w.state.made) e)))
+    (λ e. refuse_keeps (not (may_open w.state)) EMFILE w (makes_entry w name) h (new_keeps w name h (is_few (length w.state.made) e)))
 
 resizes_keeps : (w : World) (node size : ℕ) → IsServable w → Serves (resizes w node size)
 resizes_keeps w node size h = search (refuse_keeps, applies_keeps, h)
@@ -204,7 +213,7 @@ maps_keeps w node r h =
     let set : Outcome = done (record w { map = painted w.map (span_of node r) }) in
     let rest : Outcome = refuse (not ((grants w).may_set (span_of node r))) EBUSY w set in
     if_keeps_by (is_bad_setup w.state.pages r) (Err EINVAL, w) rest (record { after = h })
-        (λ e. refuse_keeps (not ((grants w).may_set (span_of node r))) EBUSY w set h (record { after = painted_keeps w (span_of node r) h (is_whole_setup w.state.pages r e) }))
+    (λ e. refuse_keeps (not ((grants w).may_set (span_of node r))) EBUSY w set h (record { after = painted_keeps w (span_of node r) h (is_whole_setup w.state.pages r e) }))
 
 remove_keeps : (w : World) (ones : List RemoveOne) → IsServable w → Serves (remove w ones)
 unfolding remove
@@ -213,16 +222,20 @@ remove_keeps w ones h =
     let may : Bool = list_all (λ one. (grants w).may_clear one.moffset one.len) ones in
     let cleared : Outcome = done (record w { map = all_cleared w.map ones }) in
     if_keeps_by (not whole) (Err EINVAL, w) (refuse (not may) EBUSY w cleared) (record { after = h })
-        (λ e. refuse_keeps (not may) EBUSY w cleared h (record { after = all_cleared_keeps ones w h (not_false whole e) }))
+    (λ e. refuse_keeps (not may) EBUSY w cleared h (record { after = all_cleared_keeps ones w h (not_false whole e) }))
 
 destroy_keeps : (w : World) → IsServable w → Serves (destroy w)
 unfolding destroy
-destroy_keeps w h = record { after = record {
-  plain = h.plain; enough = h.enough; ready = h.ready;
-  few = rw (length-map w.state.made unlooked) h.few;
-  free = cleared_plain w.map w.state.pages ∙ h.free;
-  pages = cleared_len w.map w.state.pages h.pages;
-} }
+destroy_keeps w h = record {
+  after = record {
+    plain = h.plain;
+    enough = h.enough;
+    ready = h.ready;
+    few = rw (length-map w.state.made unlooked) h.few;
+    free = cleared_plain w.map w.state.pages ∙ h.free;
+    pages = cleared_len w.map w.state.pages h.pages;
+  };
+}
 
 -- ---- any request
 
@@ -230,7 +243,7 @@ init_keeps : (w : World) (r : InitIn) → IsServable w → Serves (init w r)
 unfolding init
 init_keeps w r h =
     refuse_keeps (not (r.major == 7) || nat_lt r.minor 31) EPROTO w (Ok (gives.Init (init_out_with (session_flags w.state.pages r) r)), record w { state = begun w.state }) h
-        (record { after = state_keeps w (begun w.state) h refl h.few })
+    (record { after = state_keeps w (begun w.state) h refl h.few })
 
 answered_keeps : (w : World) (node : ℕ) (q : Request) → IsServable w → Serves (answered w node q)
 unfolding answered getattr setattr open_file open_dir release release_dir sync fallocate read write lookup unlink create forget batch_forget read_dir setup
@@ -333,8 +346,8 @@ pub servable_steps : (s : State) (files : BoardView) (map : MapView) (readable :
 servable_steps s files map readable h m e = servable_serves s files map m.body h
 
 -- a device on which nothing was done yet, with enough files of its own
-pub IsServable-new : (guest pages : ℕ) (names : List (List ℕ)) (firsts : List First) → length names ≤ 16 → 16 ≤ length firsts → IsServable (world (new_state pages names) (new_board guest firsts) (new_map pages))
-IsServable-new guest pages names firsts few enough = record {
+pub servable_at_start : (guest pages : ℕ) (names : List (List ℕ)) (firsts : List First) → length names ≤ 16 → 16 ≤ length firsts → IsServable (world (new_state pages names) (new_board guest firsts) (new_map pages))
+servable_at_start guest pages names firsts few enough = record {
   plain = refl;
   enough = rw (length-map firsts (λ (first : First). own_file first [])) enough;
   ready = (IsOwn-new_board guest firsts).ready;
@@ -342,3 +355,12 @@ IsServable-new guest pages names firsts few enough = record {
   free = refl;
   pages = length-map (replicate pages None) (λ (p : Option Page). Some p) ∙ length-replicate pages None;
 }
+
+-- a list of one name, or of none, has no name twice
+pub one_distinct : (none names : List (List ℕ)) (name : List ℕ) → none ≡ [] → names ≡ none ++ name ∷ [] → IsDistinct bytes_eq names
+unfolding IsDistinct
+one_distinct none names name empty e = rw (e, empty) (tt, tt)
+
+pub none_distinct : (names : List (List ℕ)) → names ≡ [] → IsDistinct bytes_eq names
+unfolding IsDistinct
+none_distinct names empty = rw empty tt

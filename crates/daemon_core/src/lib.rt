@@ -33,4 +33,6 @@ pub use device::serve_first;
 pub use refusals::Refused;
 
 #[cfg(test)]
+mod session_tests;
+#[cfg(test)]
 mod tests;
