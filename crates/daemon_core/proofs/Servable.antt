@@ -1,5 +1,5 @@
 -- Boards over which any request can be served stay so, whatever is asked.
-use Rattle.std.proofs.Common.{◌≡◌, ◌∙◌, sym, refl, arith, ◌<◌, ◌≤◌, ◌↔◌, ℕ, zero, suc, ◌+◌, ◌-◌, ◌*◌, ◌==◌, Bool, true, false, true≢false, IsTrue, List, [], ◌∷◌, ◌++◌, length, map, get_or, set, length-set, replicate, Option, Some, None, Result, Ok, Err, OnOk, OnErr, inl, inr, not, nat_lt, ◌&&◌, ◌||◌, if◌then◌else◌}
+use Rattle.std.proofs.Common.{◌≡◌, ◌∙◌, sym, refl, arith, ◌<◌, ◌≤◌, ℕ, ◌+◌, ◌-◌, ◌*◌, ◌==◌, Bool, true, false, true≢false, IsTrue, List, [], ◌∷◌, ◌++◌, length, map, get_or, set, length-set, replicate, Option, Some, None, Result, Ok, Err, OnOk, OnErr, inl, inr, not, nat_lt, ◌||◌, if◌then◌else◌}
 use Rattle.std.proofs.lemmas.Bool.{cases_eq}
 use Rattle.std.proofs.lemmas.Grind.{common_steps}
 use Rattle.std.proofs.lemmas.List.{length-map, length-replicate, length-append, get_or-set_same, get_or-set_other}
@@ -15,8 +15,6 @@ use Rattle.fuse_wire.specs.declared.errno.Errno.{Errno}
 use Rattle.fuse_wire.specs.declared.errno.Errno.TheVariants.{EBUSY, EINVAL, ENOSPC, EMFILE, EPROTO}
 use Rattle.fuse_wire.specs.declared.forgets.ForgetOne.{ForgetOne}
 use Rattle.fuse_wire.specs.declared.inits.InitIn.{InitIn}
-use Rattle.fuse_wire.specs.declared.records.ReadIn.{ReadIn}
-use Rattle.fuse_wire.specs.declared.attributes.SetattrIn.{SetattrIn}
 use Rattle.fuse_wire.specs.declared.mappings.RemoveOne.{RemoveOne}
 use Rattle.fuse_wire.specs.declared.mappings.SetupIn.{SetupIn}
 use Rattle.plain_file.specs.Board.{FileView, BoardView, no_file, file_at, with_own, entry_of, file_answer, may_apply, applied}
@@ -30,10 +28,10 @@ use Rattle.page_map.specs.Plain.{new_map}
 use Rattle.page_map.specs.declared.pages.Page.{Page}
 use Rattle.page_map.specs.declared.pages.Span.{Span}
 use Rattle.fuse_codec.specs.declared.replies.Reply.TheVariants as gives
-use Rattle.daemon_core.specs.State.{State, World, new_state, grants, made_at, counted_up, without_name, begun, with_made, with_new_file, new_file, with_open, without_open, looked_up, unlooked, ended, cleared_window, all_cleared}
+use Rattle.daemon_core.specs.State.{State, World, new_state, grants, made_at, counted_up, without_name, begun, with_made, with_new_file, new_file, with_open, without_open, looked_up, unlooked, cleared_window, all_cleared}
 use Rattle.daemon_core.specs.Entries.{session_flags, init_out_with}
 use Rattle.daemon_core.specs.declared.tables.MadeFile.{MadeFile}
-use Rattle.daemon_core.specs.Checks.{Outcome, may_open, refuse, on_known, on_dir, on_file, on_handle, if_may_open}
+use Rattle.daemon_core.specs.Checks.{Outcome, may_open, refuse, if_may_open}
 use Rattle.daemon_core.specs.Requests.{done, applies, attr_of, opens, closes, found, unlinked, opens_entry, makes_entry, created, resizes, forgotten, all_forgotten, span_of, is_bad_setup, init, destroy, getattr, setattr, open_file, open_dir, release, release_dir, sync, fallocate, read, write, lookup, unlink, create, forget, batch_forget, read_dir, setup, remove, answered, served}
 use Rattle.daemon_core.specs.Steps.{Step, judged_message, judged, forgot, replied, header_at, is_forget_number, device_step}
 use Rattle.daemon_core.specs.Promises.{IsServable, CanServe, CanStep, Needs, world}
