@@ -1,3 +1,4 @@
+pub mod Commands
 pub mod Courses
 pub mod Frames
 pub mod Headers

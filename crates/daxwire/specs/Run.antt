@@ -1,16 +1,12 @@
 -- What a run writes, and when it ends with which status.
-use Rattle.std.specs.Prelude.{ℕ, Bool, false, List, [], ◌∷◌, codes, if◌then◌else◌}
-use Rattle.std.specs.Str.{bytes_eq}
+use Rattle.std.specs.Prelude.{ℕ, List, codes, Option, Some, None}
 use Rattle.dax_script.specs.declared.statuses.Status.{Status}
 use Rattle.dax_script.specs.declared.statuses.Status.TheVariants as statuses
-use Rattle.daxwire.specs.Courses.{Course, course_of, due, status_of}
+use Rattle.daxwire.specs.declared.commands.Command.{Command}
+use Rattle.daxwire.specs.declared.commands.Command.TheVariants as commands
+use Rattle.daxwire.specs.Commands.{command_of}
+use Rattle.daxwire.specs.Courses.{Course, IsCutOff, course_of, due, status_of}
 use Rattle.daxwire.specs.Show.{frame_lines, end_line}
-
--- the words are the command that shows a stream
-abbrev pub is_show_command : List (List ℕ) → Bool
-is_show_command [] = false
-is_show_command (w ∷ []) = bytes_eq w (codes "show")
-is_show_command (w ∷ v ∷ ws) = false
 
 abbrev pub usage_line : List ℕ
 usage_line = codes "usage: daxwire show | serve | ring | audit\n"
@@ -27,13 +23,28 @@ show_text input = due shown end_line input
 abbrev pub show_status : List ℕ → Status
 show_status input = status_of (shown.«end» input)
 
+-- the text that is due for an input: the command's, or the usage line where there is none
+abbrev pub text_of : Option Command → List ℕ → List ℕ
+text_of None input = usage_line
+text_of (Some commands.Show) input = show_text input
+
+-- the status that is due for it
+abbrev pub status_for : Option Command → List ℕ → Status
+status_for None input = statuses.Usage
+status_for (Some commands.Show) input = show_status input
+
 -- the text that is due for these words and this input
 abbrev pub due_text : List (List ℕ) → List ℕ → List ℕ
-due_text words input = if is_show_command words then show_text input else usage_line
+due_text words input = text_of (command_of words) input
 
 -- the status that is due for them
 abbrev pub due_status : List (List ℕ) → List ℕ → Status
-due_status words input = if is_show_command words then show_status input else statuses.Usage
+due_status words input = status_for (command_of words) input
+
+-- What a command has written, where the source failed: it streams, so these are the answers to the frames that were read whole.
+abbrev pub IsStopped : Option Command → Option (List ℕ) → Option (List ℕ) → Option (List ℕ) → Option (List ℕ) → Type 0
+IsStopped None left left' taken taken' = ⊥
+IsStopped (Some commands.Show) left left' taken taken' = IsCutOff shown left left' taken taken'
 
 -- where neither the source nor the sink failed, and memory was found
 abbrev pub IfFinished : Status → Type 0 → Type 0

@@ -8,6 +8,7 @@
 //! status).
 #![tactic(auto)]
 
+mod commands;
 #[cfg(test)]
 mod frame_tests;
 mod frames;

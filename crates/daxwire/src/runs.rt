@@ -1,4 +1,4 @@
-ghost use Rattle.std.specs.Prelude.{◌≡◌, ◌≢◌, ◌≤◌, ◌+◌, ℕ, List, true, false, Some, IfSome};
+ghost use Rattle.std.specs.Prelude.{◌≡◌, ◌≢◌, ◌≤◌, ◌+◌, ℕ, List, None, Some, IfSome};
 ghost use Rattle.std.specs.Io.KnownBytes.{Appends, Consumes, IsAtEnd};
 ghost use Rattle.dax_script.specs.Causes.{Rose, AppendsFront, AppendsPart, TakesAtMost};
 ghost use Rattle.dax_script.specs.declared.statuses.Status.{Status};
@@ -6,8 +6,10 @@ ghost use Rattle.daxwire.specs.declared.frames.End.{End};
 ghost use Rattle.daxwire.specs.Frames.{limit};
 ghost use Rattle.daxwire.specs.Courses.{Ends, IsCutOff, chunk};
 ghost use Rattle.daxwire.specs.Show.{end_line};
-ghost use Rattle.daxwire.specs.Run.{is_show_command, usage_line, shown, due_text, due_status, IfFinished, IsUsageOrWriteFault, IsOkOrMemory};
+ghost use Rattle.daxwire.specs.Commands.{command_of};
+ghost use Rattle.daxwire.specs.Run.{usage_line, shown, due_text, due_status, IsStopped, IfFinished, IsUsageOrWriteFault, IsOkOrMemory};
 
+use crate::commands::Command;
 use crate::frames::{End, Reason};
 use crate::headers::read_header;
 use crate::pendings::{FillError, Pending};
@@ -16,7 +18,7 @@ use crate::shows::Show;
 use dax_script::{Sink, Source, Status, Word, write_all};
 use std::alloc::Global;
 
-/// Runs the program: with the word `show` it reads a chain stream from the source and writes one line
+/// Runs the program. With the word `show` it reads a chain stream from the source and writes one line
 /// for each frame to the sink. Every text goes to the sink. It returns always.
 ///
 /// The lines of the whole frames that were read are written before more is read. No more than one
@@ -40,34 +42,33 @@ pub fn run_wire<S: Source, K: Sink>(
     ensures finished { IfFinished result (IfSome (S.left source.old) (λ input.
         (result ≡ due_status words.now input) × Appends (K.taken sink.old) (K.taken sink.new) (due_text words.now input))) }
     ensures ok { result ≡ Status.Ok → IsAtEnd (S.left source.new) }
-    ensures usage { result ≡ Status.Usage → (is_show_command words.now ≡ false) × Appends (K.taken sink.old) (K.taken sink.new) usage_line }
-    ensures read_fault { result ≡ Status.ReadFault → (is_show_command words.now ≡ true) × Rose (S.faults source.old) (S.faults source.new)
-        × IsCutOff shown (S.left source.old) (S.left source.new) (K.taken sink.old) (K.taken sink.new) }
+    ensures usage { result ≡ Status.Usage → (command_of words.now ≡ None) × Appends (K.taken sink.old) (K.taken sink.new) usage_line }
+    ensures read_fault { result ≡ Status.ReadFault → Rose (S.faults source.old) (S.faults source.new)
+        × IsStopped (command_of words.now) (S.left source.old) (S.left source.new) (K.taken sink.old) (K.taken sink.new) }
     ensures write_fault { result ≡ Status.WriteFault → Rose (K.faults sink.old) (K.faults sink.new)
         × IfSome (S.left source.old) (λ input. AppendsPart (K.taken sink.old) (K.taken sink.new) (due_text words.now input)) }
     ensures memory { result ≡ Status.Memory → IfSome (S.left source.old) (λ input. AppendsFront (K.taken sink.old) (K.taken sink.new) (due_text words.now input)) }
     ensures legal { result ≢ Status.NotLegal }
-    ensures no_command { is_show_command words.now ≡ false → IsUsageOrWriteFault result × (source.new ≡ source.old) }
-    ensures complete { (input : List ℕ) → is_show_command words.now ≡ true → S.left source.old ≡ Some input → shown.«end» input ≡ End.Ended
+    ensures no_command { command_of words.now ≡ None → IsUsageOrWriteFault result × (source.new ≡ source.old) }
+    ensures complete { (input : List ℕ) → S.left source.old ≡ Some input → due_status words.now input ≡ Status.Ok
         → (Rose (S.faults source.old) (S.faults source.new) → ⊥) → (Rose (K.faults sink.old) (K.faults sink.new) → ⊥) → IsOkOrMemory result }
     ensures most { TakesAtMost (limit + chunk) (S.left source.old) (S.left source.new) }
 {
-    if is_show(words) {
-        return show(alloc, source, sink);
-    }
-    match write_all(sink, b"usage: daxwire show | serve | ring | audit\n") {
-        Ok(()) => Status::Usage,
-        Err(_) => Status::WriteFault,
+    match Command::of(words) {
+        Some(Command::Show) => show(alloc, source, sink),
+        None => tell_usage(sink),
     }
 }
 
-// Whether the words are the command that shows a stream.
-fn is_show(words: &[Word]) -> bool
-    ensures { result ≡ is_show_command words.now }
+// Tells which commands there are.
+fn tell_usage<K: Sink>(sink: &mut K) -> Status
+    ensures usage { result ≡ Status.Usage → Appends (K.taken sink.old) (K.taken sink.new) usage_line }
+    ensures fault { result ≡ Status.WriteFault → Rose (K.faults sink.old) (K.faults sink.new) × AppendsPart (K.taken sink.old) (K.taken sink.new) usage_line }
+    ensures only { IsUsageOrWriteFault result }
 {
-    match words {
-        [word] => word.as_slice() == b"show".as_slice(),
-        _ => false,
+    match write_all(sink, b"usage: daxwire show | serve | ring | audit\n") {
+        Ok(()) => Status::Usage,
+        Err(_) => Status::WriteFault,
     }
 }
 

@@ -1,0 +1,35 @@
+ghost use Rattle.std.specs.Prelude.{◌≡◌};
+ghost use Rattle.daxwire.specs.Commands.{command_named, command_of};
+
+use dax_script::Word;
+
+/// What the program is asked to do.
+#[derive(Clone, Copy, Debug, PartialEq, Eq)]
+pub enum Command {
+    /// To show a chain stream, one line for each frame.
+    Show,
+}
+
+impl Command {
+    /// The command that the words are; None where they are none.
+    pub fn of(words: &[Word]) -> Option<Command>
+        ensures { result ≡ command_of words.now }
+    {
+        match words {
+            [word] => Command::named(word.as_slice()),
+            _ => None,
+        }
+    }
+
+    // The command of this name.
+    #[tactic(auto, unfolding(crate::specs::Commands::command_named))]
+    fn named(name: &[u8]) -> Option<Command>
+        ensures { result ≡ command_named name.now }
+    {
+        if name == b"show".as_slice() {
+            Some(Command::Show)
+        } else {
+            None
+        }
+    }
+}
