@@ -1,3 +1,4 @@
 pub mod Finding
 pub mod InPage
 pub mod Loading
+pub mod Storing

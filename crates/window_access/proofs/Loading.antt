@@ -11,7 +11,7 @@ use Rattle.std.specs.Option.{option_map, unwrap_or}
 use Rattle.page_map.specs.Board.{MapView, mapped_byte, byte_behind}
 use Rattle.page_map.specs.declared.pages.Page.{Page}
 use Rattle.plain_file.specs.Board.{BoardView, bytes_now, size_of}
-use Rattle.window_access.specs.Access.{IsGranted, byte_of, file_of, fails, is_against, loaded, no_page, target}
+use Rattle.window_access.specs.Access.{IsGranted, IsMapped, byte_of, file_of, fails, is_against, loaded, no_page, target}
 use Rattle.window_access.specs.declared.refusals.Cause.{Cause}
 use Rattle.window_access.specs.declared.refusals.Cause.TheVariants as causes
 use Rattle.window_access.proofs.Finding.{range-append}
@@ -91,3 +91,8 @@ whole_read v m at n p old new count long e page some h counted is =
     let all : count ≡ length old = counted ∙ ap length there ∙ length-loaded v m at n ∙ long in
     let nothing : drop count old ≡ [] = grind (arith, common_steps, all) in
     is ∙ ap (λ (xs : List ℕ). take n (drop p.foffset (bytes_now (file_of v p))) ++ xs) nothing ∙ append-nil (take n (drop p.foffset (bytes_now (file_of v p)))) ∙ there
+
+-- granted bytes are mapped
+pub granted_mapped : (v : BoardView) (m : MapView) (at n : ℕ) → IsGranted v m causes.Unmapped at n → IsMapped m at n
+unfolding is_against
+granted_mapped v m at n h k less = λ none. let no : true ≡ false = ap (is_against v causes.Unmapped) (sym none) ∙ h k less in absurd cc

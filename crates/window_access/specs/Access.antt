@@ -1,5 +1,5 @@
 -- Loads and stores through the window: which are refused, what a load gives, and what a store leaves.
-use Rattle.std.specs.Prelude.{◌≡◌, ℕ, zero, suc, ◌+◌, ◌-◌, ◌*◌, ◌/◌, ◌<◌, ◌≤◌, min, max, Bool, true, false, not, nat_le, List, [], ◌∷◌, length, map, take, drop, slice_index_or, Option, Some, None, unwrap_or, Result, Ok, Err}
+use Rattle.std.specs.Prelude.{◌≡◌, ◌≢◌, ℕ, zero, suc, ◌+◌, ◌-◌, ◌*◌, ◌/◌, ◌<◌, ◌≤◌, min, max, Bool, true, false, not, nat_le, List, [], ◌∷◌, length, map, take, drop, slice_index_or, Option, Some, None, unwrap_or, Result, Ok, Err}
 use Rattle.std.specs.List.{range_with_len, find}
 use Rattle.std.specs.Option.{option_map, option_or}
 use Rattle.page_map.specs.Board.{MapView, mapped_at, mapped_byte, is_writable}
@@ -55,6 +55,10 @@ first_failing v map cause moffset len = find (fails v map cause) (range_with_len
 -- none of the bytes fails for this cause
 abbrev pub IsGranted : BoardView → MapView → Cause → ℕ → ℕ → Type 0
 IsGranted v map cause moffset len = (k : ℕ) → k < len → fails v map cause (moffset + k) ≡ false
+
+-- all of the bytes are mapped
+abbrev pub IsMapped : MapView → ℕ → ℕ → Type 0
+IsMapped map moffset len = (k : ℕ) → k < len → mapped_byte map (moffset + k) ≢ None
 
 -- the answer for a cause and a byte
 unfoldable pub refusal_at : Cause → ℕ → WindowRefusal

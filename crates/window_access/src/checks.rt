@@ -1,19 +1,20 @@
-ghost use Rattle.std.specs.Prelude.{◌≡◌, ◌<◌, ◌≤◌, ◌+◌, ◌-◌, ◌*◌, ◌%◌, ◌^◌, Some, None, length, OnOk, OnErr, IfErr, ℕ, nat_le, nat_lt, if◌then◌else◌};
+ghost use Rattle.std.specs.Prelude.{◌≡◌, ◌<◌, ◌≤◌, ◌+◌, ◌-◌, ◌*◌, ◌%◌, ◌^◌, Some, None, min, length, OnOk, OnErr, IfErr, ℕ, nat_le, nat_lt, if◌then◌else◌};
 ghost use Rattle.page_map.specs.Board.{mapped_byte};
 ghost use Rattle.plain_file.specs.Board.{file_at, size_of};
 ghost use Rattle.window_access.specs.declared.refusals.Cause.TheVariants as causes;
-ghost use Rattle.window_access.specs.Access.{CanAccess, IsPlainReady, IsGranted, file_of, first_failing, refusal_at, load_refusal, store_refusal, IsRefusal};
+ghost use Rattle.window_access.specs.Access.{CanAccess, IsPlainReady, IsGranted, IsMapped, file_of, first_failing, refusal_at, load_refusal, store_refusal, IsRefusal};
 
 use crate::refusals::{Cause, WindowRefusal};
 use page_map::{MapBoard, Mode, Page, PageMap};
 use plain_file::FileBoard;
 
 // How many bytes a page has.
-const PAGE_SIZE: u64 = 4096;
+pub(crate) const PAGE_SIZE: u64 = 4096;
 
 // How many of the bytes from an offset of the window on lie in its page.
 pub(crate) fn in_page(at: u64, len: u64) -> u64
     requires { 0 < len }
+    ensures value { result ≡ min len (4096 - at % 4096) }
     ensures some { 0 < result }
     ensures page { at % 4096 + result ≤ 4096 }
     ensures within { result ≤ len }
@@ -186,7 +187,7 @@ pub(crate) fn check_store<F: FileBoard>(
 ) -> Result<(), WindowRefusal>
     requires can { CanAccess (F.board files.old) map.now }
     ensures ok { OnOk result (store_refusal (F.board files.old) map.now moffset len ≡ None) }
-    ensures mapped { OnOk result (IsGranted (F.board files.old) map.now causes.Unmapped moffset len) }
+    ensures mapped { OnOk result (IsMapped map.now moffset len) }
     ensures small { OnOk result (moffset + len < 2 ^ 64) }
     ensures err { IfErr result (λ e. store_refusal (F.board files.old) map.now moffset len ≡ Some e) }
     ensures cause { IfErr result IsRefusal }

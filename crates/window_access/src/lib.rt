@@ -11,6 +11,8 @@
 mod checks;
 mod loads;
 mod refusals;
+mod stores;
 
 pub use loads::load_window;
 pub use refusals::WindowRefusal;
+pub use stores::store_window;
