@@ -2,3 +2,4 @@ pub mod Finding
 pub mod InPage
 pub mod Loading
 pub mod Storing
+pub mod Examples

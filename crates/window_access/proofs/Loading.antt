@@ -3,7 +3,8 @@ use Rattle.std.proofs.Common.{◌≡◌, ◌∙◌, ap, sym, subst, refl, ℕ, z
 use Rattle.std.proofs.lemmas.Bool.{leb-false}
 use Rattle.std.proofs.lemmas.Grind.{common_steps, elements}
 use Rattle.std.proofs.lemmas.List.{map-append}
-use Rattle.std.proofs.lemmas.List.FromFn.{length-map-range_with_len}
+use Rattle.std.proofs.lemmas.List.FromFn.{get_or-map-range_with_len, length-map-range_with_len}
+use Rattle.std.proofs.lemmas.Option.{slice_get-get_or}
 use Rattle.std.proofs.lemmas.Slice.{take-put_mid}
 use borrow.Rule.Slice.PartMut.{put_mid}
 use Rattle.std.specs.List.{range_with_len}
@@ -11,7 +12,7 @@ use Rattle.std.specs.Option.{option_map, unwrap_or}
 use Rattle.page_map.specs.Board.{MapView, mapped_byte, byte_behind}
 use Rattle.page_map.specs.declared.pages.Page.{Page}
 use Rattle.plain_file.specs.Board.{BoardView, bytes_now, size_of}
-use Rattle.window_access.specs.Access.{IsGranted, IsMapped, byte_of, file_of, fails, is_against, loaded, no_page, target}
+use Rattle.window_access.specs.Access.{AreShown, IsGranted, IsMapped, byte_of, file_of, fails, is_against, loaded, no_page, target}
 use Rattle.window_access.specs.declared.refusals.Cause.{Cause}
 use Rattle.window_access.specs.declared.refusals.Cause.TheVariants as causes
 use Rattle.window_access.proofs.Finding.{range-append}
@@ -96,3 +97,16 @@ whole_read v m at n p old new count long e page some h counted is =
 pub granted_mapped : (v : BoardView) (m : MapView) (at n : ℕ) → IsGranted v m causes.Unmapped at n → IsMapped m at n
 unfolding is_against
 granted_mapped v m at n h k less = λ none. let no : true ≡ false = ap (is_against v causes.Unmapped) (sym none) ∙ h k less in absurd cc
+
+-- each loaded byte is its file's
+pub loaded_shown : (v : BoardView) (m : MapView) (moffset len : ℕ) → IsGranted v m causes.PastEnd moffset len → AreShown v m moffset len (loaded v m moffset len)
+unfolding loaded is_against
+loaded_shown v m moffset len h k p less at =
+    let f : ℕ → ℕ = λ i. byte_of v (target m i) in
+    let b : List ℕ = bytes_now (file_of v p) in
+    let within : p.foffset < length b = leb-false (length b) p.foffset (sym (ap (is_against v causes.PastEnd) at) ∙ h k less) in
+    let here : f (moffset + k) ≡ get_or b p.foffset 0 = ap (λ (o : Option Page). byte_of v (unwrap_or o no_page)) at in
+    let long : k < length (map f (range_with_len moffset len)) = omega (arith, less, length-map-range_with_len f moffset len) in
+    slice_get-get_or (map f (range_with_len moffset len)) k 0 long
+    ∙ ap Some (get_or-map-range_with_len f moffset len k (moffset + k) 0 less refl ∙ here)
+    ∙ sym (slice_get-get_or b p.foffset 0 within)

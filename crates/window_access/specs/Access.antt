@@ -1,5 +1,5 @@
 -- Loads and stores through the window: which are refused, what a load gives, and what a store leaves.
-use Rattle.std.specs.Prelude.{◌≡◌, ◌≢◌, ℕ, zero, suc, ◌+◌, ◌-◌, ◌*◌, ◌/◌, ◌<◌, ◌≤◌, min, max, Bool, true, false, not, nat_le, List, [], ◌∷◌, length, map, take, drop, slice_index_or, Option, Some, None, unwrap_or, Result, Ok, Err}
+use Rattle.std.specs.Prelude.{◌≡◌, ◌≢◌, ℕ, zero, suc, ◌+◌, ◌-◌, ◌*◌, ◌/◌, ◌<◌, ◌≤◌, min, max, Bool, true, false, not, nat_le, List, [], ◌∷◌, length, map, take, drop, slice_get, slice_index_or, Option, Some, None, unwrap_or, Result, Ok, Err}
 use Rattle.std.specs.List.{range_with_len, find}
 use Rattle.std.specs.Option.{option_map, option_or}
 use Rattle.page_map.specs.Board.{MapView, mapped_at, mapped_byte, is_writable}
@@ -104,6 +104,10 @@ byte_of v p = slice_index_or (bytes_now (file_of v p)) p.foffset 0
 -- the bytes from an offset of the window on
 unfoldable pub loaded : BoardView → MapView → ℕ → ℕ → List ℕ
 loaded v m moffset len = map (λ at. byte_of v (target m at)) (range_with_len moffset len)
+
+-- each of the bytes is the one that the file of its mapping has there
+abbrev pub AreShown : BoardView → MapView → ℕ → ℕ → List ℕ → Type 0
+AreShown v map moffset len bytes = (k : ℕ) (p : Page) → k < len → mapped_byte map (moffset + k) ≡ Some p → slice_get bytes k ≡ slice_get (bytes_now (file_of v p)) p.foffset
 
 -- what a load answers, but for want of memory, which comes only where it isn't refused
 abbrev pub Loads : BoardView → MapView → ℕ → ℕ → Result (List ℕ) WindowRefusal → Type 0

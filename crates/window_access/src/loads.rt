@@ -1,9 +1,6 @@
-ghost use Rattle.std.specs.Prelude.{◌≡◌, ◌<◌, ◌≤◌, ◌+◌, ◌-◌, ◌%◌, ◌^◌, ℕ, Some, None, length, IfOk, slice_get};
-ghost use Rattle.page_map.specs.Board.{mapped_byte};
-ghost use Rattle.page_map.specs.declared.pages.Page.{Page};
-ghost use Rattle.plain_file.specs.Board.{bytes_now};
+ghost use Rattle.std.specs.Prelude.{◌≡◌, ◌<◌, ◌≤◌, ◌+◌, ◌%◌, ◌^◌, length, IfOk};
 ghost use Rattle.window_access.specs.declared.refusals.Cause.TheVariants as causes;
-ghost use Rattle.window_access.specs.Access.{NamesFiles, IsPlainReady, CanAccess, IsGranted, Loads, file_of, loaded};
+ghost use Rattle.window_access.specs.Access.{NamesFiles, IsPlainReady, CanAccess, IsGranted, Loads, AreShown, loaded};
 
 use crate::checks::{check_load, in_page};
 use crate::refusals::WindowRefusal;
@@ -31,6 +28,7 @@ pub fn load_window<F: FileBoard>(
     requires names { NamesFiles (length (F.board files.old).files) map.now }
     requires small { len ≤ 1048576 }
     ensures loads { Loads (F.board files.old) map.now moffset len result }
+    ensures shown { IfOk result (AreShown (F.board files.old) map.now moffset len) }
     ensures same { F.board files.new ≡ F.board files.old }
 {
     check_load(files, map, moffset, u64::from(len))?;
