@@ -1,6 +1,6 @@
 -- The definitions on a window of 1,024 pages over two files of 8,192 bytes, the one 170, the other 187.
-use Rattle.std.proofs.Common.{◌≡◌, refl, ℕ, List, [], ◌∷◌, replicate, Some, None}
-use Rattle.page_map.specs.Board.{MapView, painted, wiped, mapped_at, mapped_byte, is_writable}
+use Rattle.std.proofs.Common.{◌≡◌, refl, ℕ, [], ◌∷◌, Some, None}
+use Rattle.page_map.specs.Board.{MapView, painted, wiped, is_writable}
 use Rattle.page_map.specs.Plain.{new_map}
 use Rattle.page_map.specs.declared.pages.Mode.{Mode}
 use Rattle.page_map.specs.declared.pages.Mode.TheVariants as modes
@@ -8,7 +8,7 @@ use Rattle.page_map.specs.declared.pages.Span.{Span}
 use Rattle.plain_file.specs.Board.{BoardView, bytes_now}
 use Rattle.plain_file.specs.History.{after_all, bytes}
 use Rattle.plain_file.specs.Plain.{new_board}
-use Rattle.window_access.specs.Access.{first_refusal, is_against, load_refusal, loaded, refusal_at, store_refusal}
+use Rattle.window_access.specs.Access.{is_against, load_refusal, loaded, refusal_at, store_refusal}
 use Rattle.window_access.specs.declared.refusals.WindowRefusal.TheVariants as refusals
 
 abbrev span : ℕ → ℕ → ℕ → Mode → Span

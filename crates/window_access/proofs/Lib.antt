@@ -2,4 +2,5 @@ pub mod Finding
 pub mod InPage
 pub mod Loading
 pub mod Storing
+pub mod Names
 pub mod Examples

@@ -110,12 +110,7 @@ fn first_failing<F: FileBoard>(
 }
 
 // The first of these bytes that isn't mapped. Those past the window aren't.
-fn first_unmapped<F: FileBoard>(
-    files: &mut F,
-    map: &PageMap,
-    moffset: u64,
-    len: u64,
-) -> Option<u64>
+fn first_unmapped<F: FileBoard>(files: &mut F, map: &PageMap, moffset: u64, len: u64) -> Option<u64>
     requires can { CanAccess (F.board files.old) map.now }
     ensures value { result ≡ first_failing (F.board files.old) map.now causes.Unmapped moffset len }
     ensures small { result ≡ None → moffset + len < 2 ^ 64 }

@@ -12,6 +12,8 @@ mod checks;
 mod loads;
 mod refusals;
 mod stores;
+#[cfg(test)]
+mod tests;
 
 pub use loads::load_window;
 pub use refusals::WindowRefusal;

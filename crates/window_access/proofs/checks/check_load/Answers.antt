@@ -1,4 +1,4 @@
-use Rattle.std.proofs.Common.{◌≡◌, ◌∙◌, ap, sym, Option, ℕ}
+use Rattle.std.proofs.Common.{◌∙◌, ap, sym}
 use Rattle.plain_file.specs.Board.{BoardView}
 use Rattle.window_access.proofs.Finding.{none_each}
 use Rattle.window_access.specs.Access.{fails, first_failing}

@@ -1,4 +1,4 @@
-use Rattle.std.proofs.Common.{◌∙◌, ◌≡◌, sym, subst, refl, ap, arith, Option, Some, None, ℕ}
+use Rattle.std.proofs.Common.{◌∙◌, ◌≡◌, sym, ap, arith, Some, None}
 use Rattle.plain_file.specs.Board.{BoardView}
 use Rattle.window_access.proofs.Finding.{find_later, find_sooner}
 use Rattle.window_access.specs.Access.{fails, first_failing}

@@ -1,8 +1,5 @@
-use Rattle.std.proofs.Common.{◌∙◌, sym, subst, refl, ap, length, Option, Some, None}
+use Rattle.std.proofs.Common.{◌∙◌, sym, refl, length}
 use Rattle.window_access.proofs.InPage.{unmapped_other, mapped_page, read_only_page, writable_page, past_page, named_byte}
-use Rattle.window_access.specs.Access.{file_of, first_failing}
-use Rattle.window_access.specs.declared.refusals.Cause.{Cause}
-use Rattle.window_access.specs.declared.refusals.Cause.TheVariants as causes
 use Rattle.window_access.proofs.checks.first_in_page.Goals as goal
 
 pub size_of-size-requires-clause-named : goal.size_of-size-requires-clause-named

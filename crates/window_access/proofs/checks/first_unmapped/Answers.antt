@@ -1,4 +1,4 @@
-use Rattle.std.proofs.Common.{◌∙◌, sym, subst, refl, ap, arith, length, ◌≤◌, ◌+◌, ◌*◌}
+use Rattle.std.proofs.Common.{◌∙◌, sym, arith, length, ◌≤◌, ◌+◌, ◌*◌}
 use Rattle.window_access.proofs.Finding.{find_sooner, find_first, none_each}
 use Rattle.window_access.proofs.InPage.{past_window}
 use Rattle.window_access.specs.Access.{fails}

@@ -1,4 +1,4 @@
-use Rattle.std.proofs.Common.{◌∙◌, ◌≡◌, sym, subst, ap, arith, rules, length, take, drop, ◌+◌, ◌-◌}
+use Rattle.std.proofs.Common.{arith, rules, length}
 use Rattle.std.proofs.lemmas.Grind.{common_steps}
 use Rattle.window_access.proofs.Loading.{granted_part, load_more, nothing_loaded}
 use Rattle.window_access.specs.declared.refusals.Cause.TheVariants as causes

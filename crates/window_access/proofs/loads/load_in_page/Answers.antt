@@ -1,9 +1,6 @@
-use Rattle.std.proofs.Common.{◌∙◌, ◌≡◌, refl, sym, ap, arith, length, take, drop, []}
-use Rattle.std.proofs.lemmas.Grind.{common_steps}
-use Rattle.plain_file.specs.Board.{bytes_now}
-use Rattle.window_access.specs.Access.{file_of}
+use Rattle.std.proofs.Common.{◌∙◌, refl, sym, length}
 use Rattle.window_access.proofs.InPage.{named_byte}
-use Rattle.window_access.proofs.Loading.{not_unmapped, loaded_in_page, whole_read}
+use Rattle.window_access.proofs.Loading.{not_unmapped, whole_read}
 use Rattle.window_access.proofs.loads.load_in_page.Goals as goal
 
 pub overflow_sub-p : goal.overflow_sub-p

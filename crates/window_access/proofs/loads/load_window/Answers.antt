@@ -1,4 +1,4 @@
-use Rattle.std.proofs.Common.{◌≡◌, sym, subst, arith, List, ℕ}
+use Rattle.std.proofs.Common.{◌≡◌, sym, subst, arith, ℕ}
 use Rattle.std.proofs.lemmas.Grind.{common_steps}
 use Rattle.plain_file.specs.Board.{BoardView}
 use Rattle.window_access.specs.Access.{AreShown, CanAccess, IsGranted, loaded}

@@ -1,4 +1,4 @@
-use Rattle.std.proofs.Common.{◌<◌, ◌+◌, ◌*◌, ◌/◌, ◌∙◌, ap, refl, subst, sym, length, arith, ℕ}
+use Rattle.std.proofs.Common.{◌<◌, ◌+◌, ◌/◌, ◌∙◌, refl, subst, length, arith, ℕ}
 use Rattle.window_access.specs.Access.{IsPartlyStored, touched}
 use Rattle.window_access.proofs.Storing.{nothing_applied, on_err, store_all, store_more, store_part, touched_page}
 use Rattle.window_access.proofs.stores.store.Goals as goal

@@ -1,4 +1,3 @@
-use Rattle.std.proofs.Common.{sym}
 use Rattle.window_access.proofs.Storing.{can_after}
 use Rattle.window_access.proofs.stores.write.Goals as goal
 
