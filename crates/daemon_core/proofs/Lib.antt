@@ -8,3 +8,4 @@ pub mod Clears
 pub mod Numbering
 pub mod Decoded
 pub mod Servable
+pub mod Mapped

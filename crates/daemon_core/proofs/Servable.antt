@@ -131,7 +131,7 @@ if_plain : (b : Bool) (x y : MapView) → y.plain ≡ x.plain → (if b then x e
 if_plain true x y h = refl
 if_plain false x y h = h
 
-is_some : (n : ℕ) → (n == 0) ≡ false → 0 < n
+pub is_some : (n : ℕ) → (n == 0) ≡ false → 0 < n
 is_some n h = grind (arith, common_steps, h)
 
 cleared_len : (v : MapView) (pages : ℕ) → length v.table ≡ pages → length (cleared_window pages v).table ≡ pages
@@ -142,7 +142,7 @@ cleared_plain v pages = if_plain (pages == 0) v (wiped v 0 (4096 * pages)) refl
 
 -- ---- states of one size
 
-abbrev SameSize : State → State → Type 0
+abbrev pub SameSize : State → State → Type 0
 SameSize s t = (t.pages ≡ s.pages) × (length t.made ≡ length s.made)
 
 sized_keeps : (w : World) (s : State) → IsServable w → SameSize w.state s → IsServable (record w { state = s })
@@ -152,10 +152,10 @@ if_same : (b : Bool) (s t : State) → SameSize s t → SameSize s (if b then t 
 if_same true s t h = h
 if_same false s t h = (refl, refl)
 
-forgotten_same : (s : State) (node n : ℕ) → SameSize s (forgotten s node n)
+pub forgotten_same : (s : State) (node n : ℕ) → SameSize s (forgotten s node n)
 forgotten_same s node n = if_same _ s _ (refl, length-set s.made (node - 2) _)
 
-all_forgotten_same : (ones : List ForgetOne) (s : State) → SameSize s (all_forgotten s ones)
+pub all_forgotten_same : (ones : List ForgetOne) (s : State) → SameSize s (all_forgotten s ones)
 all_forgotten_same [] s = (refl, refl)
 all_forgotten_same (one ∷ ones) s =
     let first = forgotten_same s one.nodeid one.nlookup in
@@ -189,7 +189,7 @@ new_keeps w name h few =
 is_few : (n : ℕ) → not (nat_lt n 16) ≡ false → n < 16
 is_few n h = grind (arith, common_steps, h)
 
-not_false : (b : Bool) → not b ≡ false → b ≡ true
+pub not_false : (b : Bool) → not b ≡ false → b ≡ true
 not_false false h = absurd (true≢false h)
 not_false true h = refl
 
@@ -202,7 +202,7 @@ created_keeps None exclusive w name h =
 resizes_keeps : (w : World) (node size : ℕ) → IsServable w → Serves (resizes w node size)
 resizes_keeps w node size h = search (refuse_keeps, applies_keeps, h)
 
-is_whole_setup : (pages : ℕ) (r : SetupIn) → is_bad_setup pages r ≡ false → is_whole pages r.moffset r.len ≡ true
+pub is_whole_setup : (pages : ℕ) (r : SetupIn) → is_bad_setup pages r ≡ false → is_whole pages r.moffset r.len ≡ true
 is_whole_setup pages r h = grind (arith, common_steps, h)
 
 -- the window of a SETUPMAPPING that is none of the bad ones

@@ -1,12 +1,13 @@
 -- The forms of the device's contracts, and what they ask of the boards.
-use Rattle.std.specs.Prelude.{◌≡◌, ℕ, ◌*◌, ◌<◌, ◌≤◌, true, List, length, Result, Ok, Err}
+use Rattle.std.specs.Prelude.{◌≡◌, ℕ, ◌-◌, ◌*◌, ◌<◌, ◌≤◌, true, List, length, Option, Some, Result, Ok, Err}
 use Rattle.fuse_codec.specs.Replies.{is_reply, reply_len}
 use Rattle.fuse_codec.specs.Reading.{message_of}
 use Rattle.fuse_codec.specs.declared.messages.Message.{Message}
 use Rattle.fuse_codec.specs.declared.messages.Request.{Request}
 use Rattle.fuse_codec.specs.declared.messages.Request.TheVariants as asks
 use Rattle.fuse_codec.specs.declared.replies.Reply.{Reply}
-use Rattle.page_map.specs.Board.{MapView, may_clear}
+use Rattle.page_map.specs.Board.{MapView, mapped_at, may_clear}
+use Rattle.page_map.specs.declared.pages.Page.{Page}
 use Rattle.plain_file.specs.Board.{BoardView, IsReady}
 use Rattle.plain_file.specs.declared.refusals.Memory.{Memory}
 use Rattle.daemon_core.specs.declared.refusals.Refused.{Refused}
@@ -72,3 +73,7 @@ pub record IsServable (w : World) : Type 0 where
   pub few : length w.state.made ≤ 16
   pub free : w.map.plain ≡ true
   pub pages : length w.map.table ≡ w.state.pages
+
+-- each page that is mapped is one of a file, of the first so many; file i has node i + 2
+abbrev pub NamesFiles : ℕ → MapView → Type 0
+NamesFiles count map = (page : ℕ) (p : Page) → mapped_at map page ≡ Some p → (2 ≤ p.node) × (p.node - 2 < count)
