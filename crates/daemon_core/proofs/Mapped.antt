@@ -120,7 +120,7 @@ if_names_by : (b : Bool) (x y : Outcome) → Names x → (b ≡ false → Names 
 if_names_by true x y h k = h
 if_names_by false x y h k = k refl
 
-refuse_names : (bad : Bool) (e : Errno) (w : World) (rest : Outcome) → AreNamed w → Names rest → Names (refuse bad e w rest)
+pub refuse_names : (bad : Bool) (e : Errno) (w : World) (rest : Outcome) → AreNamed w → Names rest → Names (refuse bad e w rest)
 refuse_names bad e w rest h k = if_names bad (Err e, w) rest (same_names w (Err e) h) k
 
 refuse_names_by : (bad : Bool) (e : Errno) (w : World) (rest : Outcome) → AreNamed w → (bad ≡ false → Names rest) → Names (refuse bad e w rest)
@@ -243,7 +243,7 @@ served_names w m h = search (if_names, answered_names, same_names, h)
 
 -- ---- one step
 
-judged_names : (w : World) (room : ℕ) (d : Result Message BadRequest) → AreNamed w → Names (judged w room d)
+pub judged_names : (w : World) (room : ℕ) (d : Result Message BadRequest) → AreNamed w → Names (judged w room d)
 unfolding judged_message
 judged_names w room (Err bad) h = record { after = h.named }
 judged_names w room (Ok m) h = search (refuse_names, served_names, h)
@@ -252,7 +252,7 @@ forgot_names : (w : World) (d : Result Message BadRequest) → AreNamed w → Na
 forgot_names w (Err bad) h = h.named
 forgot_names w (Ok m) h = (served_names w m h).after
 
-step_names : (b : Bool) (x y : Step) → NamesFiles (length x.0.state.made) x.0.map → NamesFiles (length y.0.state.made) y.0.map → NamesFiles (length (if b then x else y).0.state.made) (if b then x else y).0.map
+pub step_names : (b : Bool) (x y : Step) → NamesFiles (length x.0.state.made) x.0.map → NamesFiles (length y.0.state.made) y.0.map → NamesFiles (length (if b then x else y).0.state.made) (if b then x else y).0.map
 step_names true x y h k = h
 step_names false x y h k = k
 

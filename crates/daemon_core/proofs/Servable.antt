@@ -57,7 +57,7 @@ if_keeps_by : (b : Bool) (x y : Outcome) → Serves x → (b ≡ false → Serve
 if_keeps_by true x y h k = h
 if_keeps_by false x y h k = k refl
 
-refuse_keeps : (bad : Bool) (e : Errno) (w : World) (rest : Outcome) → IsServable w → Serves rest → Serves (refuse bad e w rest)
+pub refuse_keeps : (bad : Bool) (e : Errno) (w : World) (rest : Outcome) → IsServable w → Serves rest → Serves (refuse bad e w rest)
 refuse_keeps bad e w rest h k = if_keeps bad (Err e, w) rest (serves (Err e, w) h) k
 
 -- another state, over the same boards
@@ -273,7 +273,7 @@ served_keeps w m h = search (if_keeps, answered_keeps, serves, h)
 
 -- ---- one step
 
-judged_keeps : (w : World) (room : ℕ) (d : Result Message BadRequest) → IsServable w → Serves (judged w room d)
+pub judged_keeps : (w : World) (room : ℕ) (d : Result Message BadRequest) → IsServable w → Serves (judged w room d)
 unfolding judged_message
 judged_keeps w room (Err bad) h = record { after = h }
 judged_keeps w room (Ok m) h = search (refuse_keeps, served_keeps, h)
@@ -282,7 +282,7 @@ forgot_keeps : (w : World) (d : Result Message BadRequest) → IsServable w → 
 forgot_keeps w (Err bad) h = h
 forgot_keeps w (Ok m) h = (served_keeps w m h).after
 
-step_keeps : (b : Bool) (x y : Step) → IsServable x.0 → IsServable y.0 → IsServable (if b then x else y).0
+pub step_keeps : (b : Bool) (x y : Step) → IsServable x.0 → IsServable y.0 → IsServable (if b then x else y).0
 step_keeps true x y h k = h
 step_keeps false x y h k = k
 

@@ -8,3 +8,4 @@ pub mod Entries
 pub mod Requests
 pub mod Steps
 pub mod Promises
+pub mod DataSteps

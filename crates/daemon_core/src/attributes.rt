@@ -6,7 +6,8 @@ ghost use Rattle.daemon_core.specs.State.{is_made};
 ghost use Rattle.daemon_core.specs.Checks.{is_known, has_flag};
 ghost use Rattle.daemon_core.specs.Entries.{attr_with, dir_attr, attr_out_of};
 ghost use Rattle.daemon_core.specs.Requests.{size_in, applies, attr_reply, attr_of, resizes, getattr, setattr};
-ghost use Rattle.daemon_core.specs.Promises.{Gives, IsWithin, HasFiles, world};
+ghost use Rattle.daemon_core.specs.Promises.{Gives, IsWithin, world};
+ghost use Rattle.daemon_core.specs.DataSteps.{HasFile};
 
 use crate::daemon::{Daemon, attr_with};
 use crate::refusals::Refused;
@@ -27,7 +28,7 @@ impl Daemon {
     ) -> Result<Reply, Refused>
         requires known { is_known self.now node ≡ true }
         requires file { node ≢ 1 }
-        requires files { HasFiles self.now (F.board files.old) }
+        requires files { HasFile self.now (F.board files.old) node }
         requires fits { reach op ≤ max_file }
         ensures answer { (map : MapView) → Gives (world self.now (F.board files.old) map) (applies (world self.now (F.board files.old) map) node op (attr_reply self.now node)) result (world self.now (F.board files.new) map) }
         ensures room { IfOk result (λ reply. IsWithin 120 reply) }
@@ -52,7 +53,7 @@ impl Daemon {
         files: &mut F,
     ) -> Result<Reply, Refused>
         requires known { is_known self.now node ≡ true }
-        requires files { HasFiles self.now (F.board files.old) }
+        requires files { HasFile self.now (F.board files.old) node }
         ensures answer { (map : MapView) → Gives (world self.now (F.board files.old) map) (attr_of (world self.now (F.board files.old) map) node) result (world self.now (F.board files.new) map) }
         ensures room { IfOk result (λ reply. IsWithin 120 reply) }
         ensures files { length (F.board files.new).files ≡ length (F.board files.old).files }
@@ -72,7 +73,7 @@ impl Daemon {
         r: &GetattrIn,
         files: &mut F,
     ) -> Result<Reply, Refused>
-        requires files { HasFiles self.now (F.board files.old) }
+        requires files { HasFile self.now (F.board files.old) node }
         ensures answer { (map : MapView) → Gives (world self.now (F.board files.old) map) (getattr (world self.now (F.board files.old) map) node r.now) result (world self.now (F.board files.new) map) }
         ensures room { IfOk result (λ reply. IsWithin 120 reply) }
         ensures files { length (F.board files.new).files ≡ length (F.board files.old).files }
@@ -96,7 +97,7 @@ impl Daemon {
         files: &mut F,
     ) -> Result<Reply, Refused>
         requires known { is_known self.now node ≡ true }
-        requires files { HasFiles self.now (F.board files.old) }
+        requires files { HasFile self.now (F.board files.old) node }
         ensures answer { (map : MapView) → Gives (world self.now (F.board files.old) map) (resizes (world self.now (F.board files.old) map) node size) result (world self.now (F.board files.new) map) }
         ensures room { IfOk result (λ reply. IsWithin 120 reply) }
         ensures files { length (F.board files.new).files ≡ length (F.board files.old).files }
@@ -119,7 +120,7 @@ impl Daemon {
         r: &SetattrIn,
         files: &mut F,
     ) -> Result<Reply, Refused>
-        requires files { HasFiles self.now (F.board files.old) }
+        requires files { HasFile self.now (F.board files.old) node }
         ensures answer { (map : MapView) → Gives (world self.now (F.board files.old) map) (setattr (world self.now (F.board files.old) map) node r.now) result (world self.now (F.board files.new) map) }
         ensures room { IfOk result (λ reply. IsWithin 120 reply) }
         ensures files { length (F.board files.new).files ≡ length (F.board files.old).files }

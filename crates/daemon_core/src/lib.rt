@@ -20,6 +20,7 @@
 
 mod attributes;
 mod daemon;
+mod data_chains;
 mod device;
 mod handles;
 mod listing;
@@ -33,6 +34,7 @@ mod sessions;
 mod steps;
 mod tables;
 mod transfers;
+mod turns;
 
 pub use daemon::Daemon;
 pub use device::serve_first;

@@ -14,7 +14,7 @@ use std::alloc::Global;
 
 impl Daemon {
     // Any request, once the session is started.
-    #[tactic(auto, unfolding(crate::specs::Requests::answered, crate::specs::Promises::Needs, fuse_codec::specs::Grammar::is_bounded, fuse_codec::specs::Grammar::kind_of, fuse_codec::specs::Grammar::asked, fuse_codec::specs::Grammar::form_room, fuse_codec::specs::Opcodes::reply_form))]
+    #[tactic(auto, using(crate::proofs::DataLaws::serves_data), unfolding(crate::specs::Requests::answered, crate::specs::Promises::Needs, crate::specs::DataSteps::is_data, fuse_codec::specs::Grammar::is_bounded, fuse_codec::specs::Grammar::kind_of, fuse_codec::specs::Grammar::asked, fuse_codec::specs::Grammar::form_room, fuse_codec::specs::Opcodes::reply_form))]
     fn answer<F: FileBoard, M: MapBoard>(
         &mut self,
         alloc: Global,
@@ -33,15 +33,9 @@ impl Daemon {
         match body {
             Request::Lookup { name } => self.lookup(node, name.as_slice(), files),
             Request::Forget { nlookup } => self.forget(node, nlookup),
-            Request::Getattr(r) => self.getattr(alloc, node, &r, files),
-            Request::Setattr(r) => self.setattr(alloc, node, &r, files),
             Request::Unlink { name } => self.unlink(node, name.as_slice()),
             Request::OpenFile(_) => self.open_file(node),
-            Request::Read(r) => self.read(alloc, node, &r, files),
-            Request::Write { head, bytes } => self.write(alloc, node, &head, bytes, files),
             Request::Release(r) => self.release(node, r.fh),
-            Request::Fsync(r) => self.sync(node, r.fh),
-            Request::Flush(r) => self.sync(node, r.fh),
             Request::Init(r) => self.init(&r),
             Request::OpenDir(_) => self.open_dir(node),
             Request::ReadDir(r) => self.read_dir(alloc, node, &r),
@@ -50,8 +44,7 @@ impl Daemon {
             Request::Destroy => self.destroy(map),
             Request::BatchForget { ones } => self.batch_forget(ones.as_slice()),
             Request::Fallocate(r) => self.fallocate(node, r.fh),
-            Request::Setup(r) => self.setup(node, &r, map),
-            Request::Remove { ones } => self.remove(ones.as_slice(), map),
+            body => self.answer_data(alloc, node, body, files, map),
         }
     }
 

@@ -15,7 +15,7 @@ use plain_file::{Blob, FileBoard, Memory};
 use std::alloc::Global;
 
 // The most bytes that a reply takes with its header.
-const MAX_REPLY: u64 = OutHeader::SIZE as u64 + MAX_TRANSFER as u64;
+pub(crate) const MAX_REPLY: u64 = OutHeader::SIZE as u64 + MAX_TRANSFER as u64;
 
 impl Daemon {
     // Judges the session and the room for the reply, then serves the request.
@@ -170,7 +170,7 @@ impl Daemon {
 
 // The header at the front of the readable bytes.
 #[tactic(auto, unfolding(fuse_wire::specs::Records::in_header_of))]
-fn header_at(readable: &[u8]) -> InHeader
+pub(crate) fn header_at(readable: &[u8]) -> InHeader
     requires { 40 ≤ length readable.now }
     ensures { result ≡ header_at readable.now }
 {
@@ -179,7 +179,7 @@ fn header_at(readable: &[u8]) -> InHeader
 
 // Whether an opcode is that of a forget.
 #[tactic(auto, unfolding(fuse_codec::specs::Opcodes::number))]
-fn is_forget_number(opcode: u32) -> bool
+pub(crate) fn is_forget_number(opcode: u32) -> bool
     ensures { result ≡ is_forget_number opcode }
 {
     opcode == 2 || opcode == 42
@@ -187,7 +187,7 @@ fn is_forget_number(opcode: u32) -> bool
 
 // The room that a request's reply wants.
 #[tactic(auto, unfolding(fuse_codec::specs::Grammar::form_room))]
-fn wanted_room(body: &Request) -> u64
+pub(crate) fn wanted_room(body: &Request) -> u64
     ensures value { result ≡ wanted_room body.now }
     ensures least { 16 ≤ result }
 {
@@ -196,7 +196,7 @@ fn wanted_room(body: &Request) -> u64
 
 // The error that answers bytes which are no request.
 #[tactic(auto, unfolding(crate::specs::Steps::errno_of))]
-fn errno_of(bad: BadRequest) -> Errno
+pub(crate) fn errno_of(bad: BadRequest) -> Errno
     ensures { result ≡ errno_of bad }
 {
     match bad {
@@ -211,7 +211,7 @@ fn errno_of(bad: BadRequest) -> Errno
 
 // Puts an error into room that is there.
 #[tactic(auto, unfolding(crate::specs::Steps::reply_to, fuse_codec::specs::Replies::reply_parts, fuse_codec::specs::Replies::is_reply))]
-fn put_error(out: &mut Vec<u8>, error: Errno, unique: u64)
+pub(crate) fn put_error(out: &mut Vec<u8>, error: Errno, unique: u64)
     requires room { 16 ≤ vec_capacity out.old }
     requires empty { out.old.items ≡ [] }
     ensures { out.new.items ≡ clean_reply unique (reply_to (Err error)) }
@@ -222,7 +222,7 @@ fn put_error(out: &mut Vec<u8>, error: Errno, unique: u64)
     put_reply(out, &reply, unique);
 }
 
-fn refusal(alloc: Global, error: Errno, unique: u64) -> Result<Blob, Memory>
+pub(crate) fn refusal(alloc: Global, error: Errno, unique: u64) -> Result<Blob, Memory>
     ensures { IfOk result (λ b. b ≡ clean_reply unique (reply_to (Err error))) }
 {
     let mut out = Vec::with_capacity(alloc, OutHeader::SIZE)?;

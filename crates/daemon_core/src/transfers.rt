@@ -3,7 +3,8 @@ ghost use Rattle.page_map.specs.Board.{MapView};
 ghost use Rattle.fuse_codec.specs.Grammar.{max_transfer};
 ghost use Rattle.daemon_core.specs.Checks.{is_past};
 ghost use Rattle.daemon_core.specs.Requests.{bytes_reply, applies, read, write};
-ghost use Rattle.daemon_core.specs.Promises.{Gives, IsWithin, HasFiles, world};
+ghost use Rattle.daemon_core.specs.Promises.{Gives, IsWithin, world};
+ghost use Rattle.daemon_core.specs.DataSteps.{HasFile};
 
 use crate::daemon::Daemon;
 use crate::refusals::Refused;
@@ -22,7 +23,7 @@ impl Daemon {
         r: &ReadIn,
         files: &mut F,
     ) -> Result<Reply, Refused>
-        requires files { HasFiles self.now (F.board files.old) }
+        requires files { HasFile self.now (F.board files.old) node }
         ensures answer { (map : MapView) → Gives (world self.now (F.board files.old) map) (read (world self.now (F.board files.old) map) node r.now) result (world self.now (F.board files.new) map) }
         ensures room { IfOk result (λ reply. IsWithin (16 + r.now.size) reply) }
         ensures files { length (F.board files.new).files ≡ length (F.board files.old).files }
@@ -61,7 +62,7 @@ impl Daemon {
         files: &mut F,
     ) -> Result<Reply, Refused>
         requires sized { length bytes ≡ r.now.size }
-        requires files { HasFiles self.now (F.board files.old) }
+        requires files { HasFile self.now (F.board files.old) node }
         ensures answer { (map : MapView) → Gives (world self.now (F.board files.old) map) (write (world self.now (F.board files.old) map) node r.now bytes) result (world self.now (F.board files.new) map) }
         ensures room { IfOk result (λ reply. IsWithin 24 reply) }
         ensures files { length (F.board files.new).files ≡ length (F.board files.old).files }

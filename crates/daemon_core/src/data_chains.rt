@@ -1,0 +1,184 @@
+ghost use Rattle.std.specs.Prelude.{◌≡◌, ◌≤◌, length, true, IfOk, OnOk, OnErr};
+ghost use Rattle.fuse_codec.specs.Grammar.{max_part, is_bounded};
+ghost use Rattle.fuse_codec.specs.Reading.{message_of};
+ghost use Rattle.daemon_core.specs.Steps.{wanted_room, replied};
+ghost use Rattle.daemon_core.specs.DataSteps.{is_data, data_answered, data_judged_message, data_judged, data_step, CanServeData, CanStepData};
+ghost use Rattle.daemon_core.specs.Promises.{Gives, IsWithin, Steps, world};
+
+use crate::daemon::Daemon;
+use crate::refusals::Refused;
+use crate::steps::{
+    MAX_REPLY, errno_of, header_at, is_forget_number, put_error, refusal, wanted_room,
+};
+use fuse_codec::{BadRequest, Message, Reply, Request, decode_request, put_reply};
+use fuse_wire::{Errno, InHeader, OutHeader};
+use page_map::MapBoard;
+use plain_file::{Blob, FileBoard, Memory};
+use std::alloc::Global;
+
+impl Daemon {
+    // A request for a file's bytes or attributes or for the window, once the session is started.
+    #[tactic(auto, unfolding(crate::specs::Requests::answered, crate::specs::DataSteps::is_data, crate::specs::DataSteps::is_on_file, fuse_codec::specs::Grammar::is_bounded, fuse_codec::specs::Grammar::kind_of, fuse_codec::specs::Grammar::asked, fuse_codec::specs::Grammar::form_room, fuse_codec::specs::Opcodes::reply_form))]
+    pub(crate) fn answer_data<F: FileBoard, M: MapBoard>(
+        &self,
+        alloc: Global,
+        node: u64,
+        body: Request,
+        files: &mut F,
+        map: &mut M,
+    ) -> Result<Reply, Refused>
+        requires bounded { is_bounded body ≡ true }
+        requires boards { CanServeData self.now (F.board files.old) (M.map map.old) node body }
+        ensures answer { Gives (world self.now (F.board files.old) (M.map map.old)) (data_answered (world self.now (F.board files.old) (M.map map.old)) node body) result (world self.now (F.board files.new) (M.map map.new)) }
+        ensures room { IfOk result (λ reply. IsWithin (wanted_room body) reply) }
+        ensures files { length (F.board files.new).files ≡ length (F.board files.old).files }
+        ensures pages { length (M.map map.new).table ≡ length (M.map map.old).table }
+    {
+        match body {
+            Request::Getattr(r) => self.getattr(alloc, node, &r, files),
+            Request::Setattr(r) => self.setattr(alloc, node, &r, files),
+            Request::Read(r) => self.read(alloc, node, &r, files),
+            Request::Write { head, bytes } => self.write(alloc, node, &head, bytes, files),
+            Request::Fsync(r) => self.sync(node, r.fh),
+            Request::Flush(r) => self.sync(node, r.fh),
+            Request::Setup(r) => self.setup(node, &r, map),
+            Request::Remove { ones } => self.remove(ones.as_slice(), map),
+            _ => Err(Refused::Errno(Errno::ENOSYS)),
+        }
+    }
+
+    // Judges the operation, the session and the room for the reply, then serves the request.
+    #[tactic(auto, unfolding(crate::specs::DataSteps::is_data, crate::specs::DataSteps::data_judged_message, crate::specs::Requests::is_init, crate::specs::Requests::served, crate::specs::Steps::judged_message))]
+    fn judge_data<F: FileBoard, M: MapBoard>(
+        &self,
+        alloc: Global,
+        message: Message,
+        room: u32,
+        files: &mut F,
+        map: &mut M,
+    ) -> Result<Reply, Refused>
+        requires bounded { is_bounded message.body ≡ true }
+        requires boards { CanServeData self.now (F.board files.old) (M.map map.old) message.head.nodeid message.body }
+        ensures answer { Gives (world self.now (F.board files.old) (M.map map.old)) (data_judged_message (world self.now (F.board files.old) (M.map map.old)) room message) result (world self.now (F.board files.new) (M.map map.new)) }
+        ensures room { IfOk result (λ reply. IsWithin (wanted_room message.body) reply) }
+    {
+        let Message { head, body } = message;
+        if !is_data(&body) {
+            return Err(Refused::Errno(Errno::ENOSYS));
+        }
+        if !self.is_started() {
+            return Err(Refused::Errno(Errno::EIO));
+        }
+        if (room as u64) < wanted_room(&body) {
+            return Err(Refused::Errno(Errno::EINVAL));
+        }
+        self.answer_data(alloc, head.nodeid, body, files, map)
+    }
+
+    // The bytes that answer a request. They have their place before anything is done.
+    #[tactic(auto, using(fuse_codec::proofs::CleanReplies::reply_bound), unfolding(crate::specs::Steps::reply_to))]
+    fn answer_data_message<F: FileBoard, M: MapBoard>(
+        &self,
+        alloc: Global,
+        unique: u64,
+        message: Message,
+        room: u32,
+        files: &mut F,
+        map: &mut M,
+    ) -> Result<Blob, Memory>
+        requires bounded { is_bounded message.body ≡ true }
+        requires boards { CanServeData self.now (F.board files.old) (M.map map.old) message.head.nodeid message.body }
+        ensures { Steps (world self.now (F.board files.old) (M.map map.old)) (replied unique (data_judged_message (world self.now (F.board files.old) (M.map map.old)) room message)) result (world self.now (F.board files.new) (M.map map.new)) }
+    {
+        let most = wanted_room(&message.body).min(MAX_REPLY);
+        let mut out = Vec::with_capacity(alloc, most as usize)?;
+        match self.judge_data(alloc, message, room, files, map) {
+            Ok(reply) => put_reply(&mut out, &reply, unique),
+            Err(Refused::Errno(error)) => put_error(&mut out, error, unique),
+            Err(Refused::Memory) => return Err(Memory),
+        }
+        Ok(Blob::from_vec(out))
+    }
+
+    // Decodes, judges and replies.
+    #[tactic(auto, using(crate::proofs::Decoded::decoded_bounded, crate::proofs::DataLaws::serves_step))]
+    fn reply_data<F: FileBoard, M: MapBoard>(
+        &self,
+        alloc: Global,
+        unique: u64,
+        readable: &[u8],
+        room: u32,
+        files: &mut F,
+        map: &mut M,
+    ) -> Result<Blob, Memory>
+        requires within { length readable.now ≤ max_part }
+        requires boards { CanStepData self.now (F.board files.old) (M.map map.old) readable.now }
+        ensures { Steps (world self.now (F.board files.old) (M.map map.old)) (replied unique (data_judged (world self.now (F.board files.old) (M.map map.old)) room (message_of readable.now))) result (world self.now (F.board files.new) (M.map map.new)) }
+    {
+        match decode_request(alloc, readable) {
+            Ok(message) => self.answer_data_message(alloc, unique, message, room, files, map),
+            Err(BadRequest::Memory) => Err(Memory),
+            Err(bad) => refusal(alloc, errno_of(bad), unique),
+        }
+    }
+
+    /// Serves one chain of a virtio-fs queue as a daemon that several queues share and that stays as it
+    /// is: [`serve_chain`](Daemon::serve_chain) for READ, WRITE, GETATTR, SETATTR, FSYNC, FLUSH,
+    /// SETUPMAPPING and REMOVEMAPPING. `readable` is the readable part of at most `MAX_PART` bytes, and
+    /// `room` is how many bytes the writable part has.
+    ///
+    /// Every other operation that has a reply is answered `ENOSYS`, where its body is well formed; this
+    /// comes before the session and the room for its reply are looked at. FORGET and BATCH_FORGET do
+    /// nothing and are answered no bytes. What is no request is refused as ever.
+    ///
+    /// Each made file is on the board of files, and the map has as many pages as the daemon. The file
+    /// that [`named_file`](Daemon::named_file) gives for the same bytes is ready, if it gives one; no
+    /// other one has to be.
+    ///
+    /// `Memory` comes only from a refused allocation, and nothing has changed then.
+    #[tactic(auto, unfolding(crate::specs::DataSteps::data_step))]
+    pub fn serve_chain_data<F: FileBoard, M: MapBoard>(
+        &self,
+        alloc: Global,
+        readable: &[u8],
+        room: u32,
+        files: &mut F,
+        map: &mut M,
+    ) -> Result<Blob, Memory>
+        requires within { length readable.now ≤ max_part }
+        requires boards { CanStepData self.now (F.board files.old) (M.map map.old) readable.now }
+        ensures reply { IfOk result (λ b. b ≡ (data_step (world self.now (F.board files.old) (M.map map.old)) readable.now room).1) }
+        ensures step { OnOk result (world self.now (F.board files.new) (M.map map.new) ≡ (data_step (world self.now (F.board files.old) (M.map map.old)) readable.now room).0) }
+        ensures memory { OnErr result (world self.now (F.board files.new) (M.map map.new) ≡ world self.now (F.board files.old) (M.map map.old)) }
+    {
+        if readable.len() < InHeader::SIZE {
+            return Ok(Blob::new(alloc));
+        }
+        let header = header_at(readable);
+        if is_forget_number(header.opcode) {
+            return Ok(Blob::new(alloc));
+        }
+        if (room as usize) < OutHeader::SIZE {
+            return Ok(Blob::new(alloc));
+        }
+        self.reply_data(alloc, header.unique, readable, room, files, map)
+    }
+}
+
+// Whether a request is carried out while the daemon stays as it is.
+#[tactic(auto, unfolding(crate::specs::DataSteps::is_data))]
+fn is_data(body: &Request) -> bool
+    ensures { result ≡ is_data body.now }
+{
+    match body {
+        Request::Getattr(_)
+        | Request::Setattr(_)
+        | Request::Read(_)
+        | Request::Write { .. }
+        | Request::Fsync(_)
+        | Request::Flush(_)
+        | Request::Setup(_)
+        | Request::Remove { .. } => true,
+        _ => false,
+    }
+}

@@ -1,0 +1,95 @@
+ghost use Rattle.std.specs.Prelude.{◌≡◌, ◌≤◌, length, is_some};
+ghost use Rattle.fuse_codec.specs.Grammar.{max_part};
+ghost use Rattle.fuse_codec.specs.Opcodes.{opcode_of};
+ghost use Rattle.fuse_codec.specs.Reading.{write_of};
+ghost use Rattle.daemon_core.specs.DataSteps.{is_file_body, is_body_on_file, file_of, named_in, named_file};
+
+use crate::daemon::Daemon;
+use crate::steps::header_at;
+use fuse_codec::{MAX_TRANSFER, Opcode};
+use fuse_wire::{GetattrIn, InHeader, ReadIn, SetattrIn, WriteIn};
+
+impl Daemon {
+    // The file of a node, where it is a known file's.
+    fn file_at(&self, node: u64) -> Option<u32>
+        ensures { result ≡ file_of self.now node }
+    {
+        if node != 1 && self.is_known(node) {
+            Some(self.file_of(node))
+        } else {
+            None
+        }
+    }
+
+    // The file that a whole header and a body name.
+    fn named_in(&self, header: &InHeader, body: &[u8]) -> Option<u32>
+        ensures { result ≡ named_in self.now header.now body.now }
+    {
+        if is_body_on_file(header.opcode, body) {
+            self.file_at(header.nodeid)
+        } else {
+            None
+        }
+    }
+
+    /// The number of the file whose turn a chain needs before [`serve_chain_data`](Daemon::serve_chain_data)
+    /// serves it. `readable` is the chain's readable part, of at most `MAX_PART` bytes.
+    ///
+    /// It is a file exactly where the bytes are a request, which is READ, WRITE, GETATTR or SETATTR, and
+    /// the request's node is a known file's: a made file that has a name, a lookup that wasn't given back,
+    /// or an open handle. Nothing is allocated.
+    #[tactic(auto, using(crate::proofs::DataLaws::short_named, crate::proofs::DataLaws::wrong_header_named, crate::proofs::DataLaws::whole_named))]
+    pub fn named_file(&self, readable: &[u8]) -> Option<u32>
+        requires within { length readable.now ≤ max_part }
+        ensures { result ≡ named_file self.now readable.now }
+    {
+        if readable.len() < InHeader::SIZE {
+            return None;
+        }
+        let header = header_at(readable);
+        if header.len as usize != readable.len() || header.total_extlen != 0 {
+            return None;
+        }
+        let (_, body) = readable.split_at(InHeader::SIZE);
+        self.named_in(&header, body)
+    }
+}
+
+// Whether bytes are the body of a request for a file's bytes or attributes.
+#[tactic(auto, unfolding(crate::specs::DataSteps::is_file_body))]
+fn is_file_body(opcode: Opcode, body: &[u8]) -> bool
+    ensures { result ≡ is_file_body opcode body.now }
+{
+    match opcode {
+        Opcode::Getattr => GetattrIn::read(body).is_some(),
+        Opcode::Setattr => SetattrIn::read(body).is_some(),
+        Opcode::Read => ReadIn::read(body).is_some(),
+        Opcode::Write => is_write(body),
+        _ => false,
+    }
+}
+
+// The same, by the operation's number.
+fn is_body_on_file(opcode: u32, body: &[u8]) -> bool
+    ensures { result ≡ is_body_on_file (opcode_of opcode) body.now }
+{
+    match Opcode::of(opcode) {
+        Some(opcode) => is_file_body(opcode, body),
+        None => false,
+    }
+}
+
+// Whether bytes are the body of a WRITE.
+#[tactic(auto, unfolding(fuse_codec::specs::Reading::write_of, fuse_codec::specs::Reading::write_with, fuse_wire::specs::Records::write_in_of))]
+fn is_write(body: &[u8]) -> bool
+    ensures { result ≡ is_some (write_of body.now) }
+{
+    if body.len() < WriteIn::SIZE {
+        return false;
+    }
+    let (front, rest) = body.split_at(WriteIn::SIZE);
+    let Some(head) = WriteIn::read(front) else {
+        return false;
+    };
+    head.size as usize == rest.len() && rest.len() <= MAX_TRANSFER as usize
+}
