@@ -10,7 +10,7 @@ use Rattle.fuse_wire.specs.Records.{u32_at}
 use Rattle.daxwire.specs.declared.frames.End.TheVariants as ends
 use Rattle.daxwire.specs.declared.frames.Reason.TheVariants as reasons
 use Rattle.daxwire.specs.Frames.{Frame, Frames, frames, frames_from, header_len, is_header, no_more}
-use Rattle.daxwire.specs.Courses.{PendingView, Went, IsCutOff, course_from, course_of, is_open}
+use Rattle.daxwire.specs.Courses.{PendingView, Went, IsCutOff, course_by, course_from, is_open}
 use Rattle.daxwire.specs.Headers.{IsHeaded, IsUnheaded, IsWaiting}
 use Rattle.daxwire.proofs.CourseLaws.{IsLast, told_before, told_each}
 use Rattle.daxwire.proofs.Following.{told_nothing}
@@ -51,7 +51,7 @@ is_short : (bytes : List ℕ) → length bytes < header_len → nat_lt (length b
 is_short bytes short = grind (arith, common_steps, short)
 
 -- behind the header the course is that of the frames
-pub headed_went : (says : List Frame → List ℕ) (left left' taken : Option (List ℕ)) (p : PendingView) (pages : ℕ) → IsHeaded left left' p pages → Went (course_of says) (course_from says p) left left' taken taken
+pub headed_went : (says : ℕ → List Frame → List ℕ) (left left' taken : Option (List ℕ)) (p : PendingView) (pages : ℕ) → IsHeaded left left' p pages → Went (course_by says) (course_from (says pages) p) left left' taken taken
 headed_went says left left' taken p pages h =
     let long = header_long h.bytes h.header in
     let same : (more : List ℕ) → frames (h.bytes ++ more) ≡ frames_from p.at (p.rest ++ more) =
@@ -63,28 +63,28 @@ headed_went says left left' taken p pages h =
       written = [];
       consumed = h.consumed;
       appended = Appends-nil taken;
-      text = λ more. ap (λ (fs : Frames). says fs.whole) (same more);
+      text = λ more. ap (λ n. says n (frames (h.bytes ++ more)).whole) (u32_append h.bytes more 8 (omega (arith, long)) ∙ sym h.pages_is) ∙ ap (λ (fs : Frames). says pages fs.whole) (same more);
       «end» = λ more. ap (λ (fs : Frames). fs.«end») (same more);
       may_go_on = λ more. ap (λ (b : Bool). b || is_open (frames (h.bytes ++ more)).«end») (not_short h.bytes more long) ∙ ap (λ (fs : Frames). is_open fs.«end») (same more);
     }
 
 -- a stream that isn't one
-pub unheaded_last : (says : List Frame → List ℕ) (left left' : Option (List ℕ)) → says [] ≡ [] → IsUnheaded left left' → IsLast (course_of says) left (ends.Malformed reasons.Header 0) []
+pub unheaded_last : (says : ℕ → List Frame → List ℕ) (left left' : Option (List ℕ)) → ((pages : ℕ) → says pages [] ≡ []) → IsUnheaded left left' → IsLast (course_by says) left (ends.Malformed reasons.Header 0) []
 unheaded_last says left left' quiet h =
-    let c = course_of says in
+    let c = course_by says in
     let e = ends.Malformed reasons.Header 0 in
     let last : (input : List ℕ) → is_header input ≡ false → (c.«end» input ≡ e) × (c.text input ≡ []) =
-    λ input k. (ap (λ (fs : Frames). fs.«end») (frames_unheaded input k), ap (λ (fs : Frames). says fs.whole) (frames_unheaded input k) ∙ quiet) in
+    λ input k. (ap (λ (fs : Frames). fs.«end») (frames_unheaded input k), ap (λ (fs : Frames). says (u32_at input 8) fs.whole) (frames_unheaded input k) ∙ quiet (u32_at input 8)) in
     elim h.whole [
       | inl long ↦ told_before left left' h.bytes (λ more. (c.«end» more ≡ e) × (c.text more ≡ [])) (λ more. Unit {0}) h.consumed (λ more k. last (h.bytes ++ more) (header_stays h.bytes more long ∙ h.no_header)) (told_each left' (λ more. Unit {0}) (λ more. tt))
       | inr end ↦ told_before left left' h.bytes (λ more. (c.«end» more ≡ e) × (c.text more ≡ [])) (λ more. more ≡ []) h.consumed (λ more k. last (h.bytes ++ more) (ap is_header (ap (λ (xs : List ℕ). h.bytes ++ xs) k ∙ append-nil h.bytes) ∙ h.no_header)) (told_nothing left' end)
     ]
 
 -- the source failed within the header
-pub waiting_cut_off : (says : List Frame → List ℕ) (left left' taken : Option (List ℕ)) → says [] ≡ [] → IsWaiting left left' → IsCutOff (course_of says) left left' taken taken
+pub waiting_cut_off : (says : ℕ → List Frame → List ℕ) (left left' taken : Option (List ℕ)) → ((pages : ℕ) → says pages [] ≡ []) → IsWaiting left left' → IsCutOff (course_by says) left left' taken taken
 waiting_cut_off says left left' taken quiet h = record {
   read = h.bytes;
   consumed = h.consumed;
   may_go_on = ap (λ (b : Bool). b || is_open (frames h.bytes).«end») (is_short h.bytes h.short);
-  appended = subst (Appends taken taken) (sym (ap (λ (fs : Frames). says fs.whole) (frames_unheaded h.bytes (short_header h.bytes h.short)) ∙ quiet)) (Appends-nil taken);
+  appended = subst (Appends taken taken) (sym (ap (λ (fs : Frames). says (u32_at h.bytes 8) fs.whole) (frames_unheaded h.bytes (short_header h.bytes h.short)) ∙ quiet (u32_at h.bytes 8))) (Appends-nil taken);
 }

@@ -1,10 +1,11 @@
 pub mod Answering
+pub mod Bounds
 pub mod CourseLaws
 pub mod Following
 pub mod FrameSteps
 pub mod HeaderLaws
 pub mod Reading
-pub mod Showing
+pub mod Serving
 pub mod Stable
 pub mod StreamEnds
 pub mod Sums

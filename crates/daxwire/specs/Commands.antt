@@ -6,7 +6,10 @@ use Rattle.daxwire.specs.declared.commands.Command.TheVariants as commands
 
 -- the command of a name
 unfoldable pub command_named : List ℕ → Option Command
-command_named name = if bytes_eq name (codes "show") then Some commands.Show else None
+command_named name =
+    if bytes_eq name (codes "show") then Some commands.Show
+    else if bytes_eq name (codes "serve") then Some commands.Serve
+    else None
 
 -- the command that words are: one word, its name
 abbrev pub command_of : List (List ℕ) → Option Command

@@ -4,6 +4,7 @@ use Rattle.std.specs.Io.KnownBytes.{Appends, Consumes, Keeps, IsAtEnd}
 use Rattle.dax_script.specs.Causes.{Rose, AppendsFront, AppendsPart}
 use Rattle.dax_script.specs.declared.statuses.Status.{Status}
 use Rattle.dax_script.specs.declared.statuses.Status.TheVariants as statuses
+use Rattle.fuse_wire.specs.Records.{u32_at}
 use Rattle.daxwire.specs.declared.frames.End.{End}
 use Rattle.daxwire.specs.declared.frames.End.TheVariants as ends
 use Rattle.daxwire.specs.declared.frames.Reason.TheVariants as reasons
@@ -49,13 +50,17 @@ course_from says p = record {
   may_go_on = λ more. is_open (frames_from p.at (p.rest ++ more)).«end»;
 }
 
--- the course of a whole stream
-abbrev pub course_of : (List Frame → List ℕ) → Course
-course_of says = record {
-  text = λ input. says (frames input).whole;
+-- the course of a whole stream, where what is said of its frames hangs on how many pages its header says
+abbrev pub course_by : (ℕ → List Frame → List ℕ) → Course
+course_by says = record {
+  text = λ input. says (u32_at input 8) (frames input).whole;
   «end» = λ input. (frames input).«end»;
   may_go_on = λ input. nat_lt (length input) header_len || is_open (frames input).«end»;
 }
+
+-- the course of a whole stream
+abbrev pub course_of : (List Frame → List ℕ) → Course
+course_of says = course_by (λ pages. says)
 
 -- all that is due for a stream that goes on with these bytes
 abbrev pub due : Course → (End → List ℕ) → List ℕ → List ℕ

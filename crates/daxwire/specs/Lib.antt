@@ -3,4 +3,5 @@ pub mod Courses
 pub mod Frames
 pub mod Headers
 pub mod Run
+pub mod Serve
 pub mod Show

@@ -5,7 +5,8 @@ use Rattle.dax_script.specs.declared.statuses.Status.TheVariants as statuses
 use Rattle.daxwire.specs.declared.commands.Command.{Command}
 use Rattle.daxwire.specs.declared.commands.Command.TheVariants as commands
 use Rattle.daxwire.specs.Commands.{command_of}
-use Rattle.daxwire.specs.Courses.{Course, IsCutOff, course_of, due, status_of}
+use Rattle.daxwire.specs.Courses.{Course, IsCutOff, course_by, course_of, due, status_of}
+use Rattle.daxwire.specs.Serve.{fault_output, first_world, outputs}
 use Rattle.daxwire.specs.Show.{frame_lines, end_line}
 
 abbrev pub usage_line : List ℕ
@@ -23,15 +24,29 @@ show_text input = due shown end_line input
 abbrev pub show_status : List ℕ → Status
 show_status input = status_of (shown.«end» input)
 
+-- what becomes of a stream that is served
+abbrev pub served : Course
+served = course_by (λ pages. outputs (first_world pages))
+
+-- the output that is due for an input: an output frame for each whole frame, and one where the stream is malformed
+abbrev pub serve_text : List ℕ → List ℕ
+serve_text input = due served fault_output input
+
+-- the status that is due for an input
+abbrev pub serve_status : List ℕ → Status
+serve_status input = status_of (served.«end» input)
+
 -- the text that is due for an input: the command's, or the usage line where there is none
 abbrev pub text_of : Option Command → List ℕ → List ℕ
 text_of None input = usage_line
 text_of (Some commands.Show) input = show_text input
+text_of (Some commands.Serve) input = serve_text input
 
 -- the status that is due for it
 abbrev pub status_for : Option Command → List ℕ → Status
 status_for None input = statuses.Usage
 status_for (Some commands.Show) input = show_status input
+status_for (Some commands.Serve) input = serve_status input
 
 -- the text that is due for these words and this input
 abbrev pub due_text : List (List ℕ) → List ℕ → List ℕ
@@ -45,6 +60,7 @@ due_status words input = status_for (command_of words) input
 abbrev pub IsStopped : Option Command → Option (List ℕ) → Option (List ℕ) → Option (List ℕ) → Option (List ℕ) → Type 0
 IsStopped None left left' taken taken' = ⊥
 IsStopped (Some commands.Show) left left' taken taken' = IsCutOff shown left left' taken taken'
+IsStopped (Some commands.Serve) left left' taken taken' = IsCutOff served left left' taken taken'
 
 -- where neither the source nor the sink failed, and memory was found
 abbrev pub IfFinished : Status → Type 0 → Type 0

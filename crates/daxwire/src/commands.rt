@@ -8,6 +8,8 @@ use dax_script::Word;
 pub enum Command {
     /// To show a chain stream, one line for each frame.
     Show,
+    /// To serve a chain stream, one output frame for each frame.
+    Serve,
 }
 
 impl Command {
@@ -28,6 +30,8 @@ impl Command {
     {
         if name == b"show".as_slice() {
             Some(Command::Show)
+        } else if name == b"serve".as_slice() {
+            Some(Command::Serve)
         } else {
             None
         }

@@ -22,6 +22,7 @@ mod responding;
 #[cfg(test)]
 mod run_tests;
 mod runs;
+mod serves;
 mod shows;
 
 use dax_script::{Status, StdSink, StdSource, command_words};

@@ -22,8 +22,20 @@ pub trait Responder {
     // What is written in answer to these frames.
     ghost says: { Self → List Frame → List ℕ };
 
+    // The same for one that starts with a window of so many pages.
+    ghost starting: { ℕ → List Frame → List ℕ };
+
     // What is written at the end.
     ghost ending: { End → List ℕ };
+
+    /// One that has answered no frame yet, for a stream whose header says so many pages. `Memory` comes
+    /// where an allocation was refused.
+    fn start(alloc: Global, pages: u32) -> Result<Self, Memory>
+        ensures { IfOk result (λ r. says r ≡ starting pages) };
+
+    /// At the start nothing is written in answer to no frames.
+    fn quiet_at_start()
+        ensures { (pages : ℕ) → starting pages [] ≡ [] };
 
     /// Nothing is written in answer to no frames.
     fn quiet(&self)
@@ -43,8 +55,9 @@ pub trait Responder {
         ensures says { OnOk result ((more : List Frame) →
             out.old.items ++ says self.old (record { front = front; bytes = bytes.now } ∷ more) ≡ out.new.items ++ says self.new more) };
 
-    /// Adds what is written at the end to a text. After `Memory` nothing is known of the text.
-    fn end(&self, end: End, out: &mut Vec<u8>) -> Result<(), Memory>
+    /// Adds what is written at the end to a text, whether a frame was answered or none. After `Memory`
+    /// nothing is known of the text.
+    fn end(end: End, out: &mut Vec<u8>) -> Result<(), Memory>
         ensures says { OnOk result (out.new.items ≡ out.old.items ++ ending end) };
 }
 
@@ -95,16 +108,11 @@ impl Front {
 
 /// Writes a text and what is due at the end, and tells the status of that end, or a failure.
 #[tactic(auto, unfolding(crate::specs::Courses::status_of))]
-pub fn finish<R: Responder, K: Sink>(
-    responder: &R,
-    end: End,
-    out: &mut Vec<u8>,
-    sink: &mut K,
-) -> Status
+pub fn finish<R: Responder, K: Sink>(end: End, out: &mut Vec<u8>, sink: &mut K) -> Status
     ensures writes { Writes (out.old.items ++ R.ending end) (status_of end) (K.taken sink.old) (K.taken sink.new) (K.faults sink.old) (K.faults sink.new) result }
     ensures later { K.faults sink.old ≤ K.faults sink.new }
 {
-    if responder.end(end, out).is_err() {
+    if R::end(end, out).is_err() {
         return Status::Memory;
     }
     if write_all(sink, out).is_err() {
@@ -143,10 +151,10 @@ fn flush<R: Responder, K: Sink>(
     responder.quiet();
     let at = pending.at();
     if let Front::Bad(reason) = front {
-        return Err(finish(responder, End::Malformed { reason, at }, out, sink));
+        return Err(finish::<R, K>(End::Malformed { reason, at }, out, sink));
     }
     if at + pending.rest().len() as u64 > LIMIT {
-        return Err(finish(responder, End::TooLong, out, sink));
+        return Err(finish::<R, K>(End::TooLong, out, sink));
     }
     match write_all(sink, out) {
         Ok(()) => {
@@ -180,7 +188,7 @@ fn read_on<R: Responder, S: Source, K: Sink>(
 {
     responder.quiet();
     match pending.fill(source) {
-        Ok(0) => Err(finish(responder, front.open_end(pending.at()), out, sink)),
+        Ok(0) => Err(finish::<R, K>(front.open_end(pending.at()), out, sink)),
         Ok(_) => Ok(()),
         Err(FillError::Memory) => Err(Status::Memory),
         Err(FillError::Failed) => Err(Status::ReadFault),

@@ -4,7 +4,7 @@ ghost use Rattle.dax_script.specs.Causes.{Rose, AppendsFront, AppendsPart, Takes
 ghost use Rattle.dax_script.specs.declared.statuses.Status.{Status};
 ghost use Rattle.daxwire.specs.declared.frames.End.{End};
 ghost use Rattle.daxwire.specs.Frames.{limit};
-ghost use Rattle.daxwire.specs.Courses.{Ends, IsCutOff, chunk};
+ghost use Rattle.daxwire.specs.Courses.{Ends, IsCutOff, chunk, course_by};
 ghost use Rattle.daxwire.specs.Show.{end_line};
 ghost use Rattle.daxwire.specs.Commands.{command_of};
 ghost use Rattle.daxwire.specs.Run.{usage_line, shown, due_text, due_status, IsStopped, IfFinished, IsUsageOrWriteFault, IsOkOrMemory};
@@ -13,26 +13,30 @@ use crate::commands::Command;
 use crate::frames::{End, Reason};
 use crate::headers::read_header;
 use crate::pendings::{FillError, Pending};
-use crate::responding::{finish, respond};
+use crate::responding::{Responder, finish, respond};
+use crate::serves::Serve;
 use crate::shows::Show;
 use dax_script::{Sink, Source, Status, Word, write_all};
+use plain_file::Memory;
 use std::alloc::Global;
 
 /// Runs the program. With the word `show` it reads a chain stream from the source and writes one line
-/// for each frame to the sink. Every text goes to the sink. It returns always.
+/// for each frame to the sink; with the word `serve` it serves the stream and writes one output frame
+/// for each frame. Every text goes to the sink. It returns always.
 ///
-/// The lines of the whole frames that were read are written before more is read. No more than one
+/// The answers to the whole frames that were read are written before more is read. No more than one
 /// frame and one read of 65,536 bytes is kept, whatever the stream's length. The statuses:
 ///
-/// - `Ok`: the source was read to its end, which is behind a whole frame or the header, and all lines
+/// - `Ok`: the source was read to its end, which is behind a whole frame or the header, and all answers
 ///   were taken.
-/// - `Refused`: the stream is malformed, and the last line, which was taken, says why and where.
+/// - `Refused`: the stream is malformed, and the last line or output frame, which was taken, says why and
+///   where.
 /// - `Usage`: the words are no command, and the usage line was taken; nothing was read.
-/// - `ReadFault`: the source failed; the lines of the frames that were read whole before were taken.
+/// - `ReadFault`: the source failed; the answers to the frames that were read whole before were taken.
 /// - `WriteFault`: the sink failed; what was taken is a front of the text due, and not all of it.
 /// - `Memory`: an allocation was refused; what was taken is a front of the text due.
-/// - `TooLong`: the source has more than 268,435,456 bytes, of which these have nothing malformed, and
-///   the last line, which was taken, is `too long`.
+/// - `TooLong`: the source has more than 268,435,456 bytes, of which these have nothing malformed. `show`
+///   writes the last line `too long` for it, `serve` nothing.
 pub fn run_wire<S: Source, K: Sink>(
     alloc: Global,
     words: &[Word],
@@ -55,7 +59,8 @@ pub fn run_wire<S: Source, K: Sink>(
     ensures most { TakesAtMost (limit + chunk) (S.left source.old) (S.left source.new) }
 {
     match Command::of(words) {
-        Some(Command::Show) => show(alloc, source, sink),
+        Some(Command::Show) => answer_stream::<Show, S, K>(alloc, source, sink),
+        Some(Command::Serve) => answer_stream::<Serve, S, K>(alloc, source, sink),
         None => tell_usage(sink),
     }
 }
@@ -72,16 +77,23 @@ fn tell_usage<K: Sink>(sink: &mut K) -> Status
     }
 }
 
-// Shows a stream.
-fn show<S: Source, K: Sink>(alloc: Global, source: &mut S, sink: &mut K) -> Status
-    ensures ends { Ends shown end_line (S.left source.old) (S.left source.new) (K.taken sink.old) (K.taken sink.new) (S.faults source.old) (S.faults source.new) (K.faults sink.old) (K.faults sink.new) result }
+// Answers a stream from its header on.
+fn answer_stream<R: Responder + Drop, S: Source, K: Sink>(
+    alloc: Global,
+    source: &mut S,
+    sink: &mut K,
+) -> Status
+    ensures ends { Ends (course_by R.starting) R.ending (S.left source.old) (S.left source.new) (K.taken sink.old) (K.taken sink.new) (S.faults source.old) (S.faults source.new) (K.faults sink.old) (K.faults sink.new) result }
     ensures most { TakesAtMost (limit + chunk) (S.left source.old) (S.left source.new) }
 {
+    R::quiet_at_start();
     let mut pending = Pending::new(alloc);
     match read_header(&mut pending, source) {
-        Ok(Some(_)) => respond(alloc, &mut Show, &mut pending, source, sink),
-        Ok(None) => finish(
-            &Show,
+        Ok(Some(pages)) => match R::start(alloc, pages) {
+            Ok(mut responder) => respond(alloc, &mut responder, &mut pending, source, sink),
+            Err(Memory) => Status::Memory,
+        },
+        Ok(None) => finish::<R, K>(
             End::Malformed {
                 reason: Reason::Header,
                 at: 0,

@@ -22,7 +22,16 @@ impl Responder for Show {
 
     ghost says = { λ s frames. frame_lines frames };
 
+    ghost starting = { λ pages frames. frame_lines frames };
+
     ghost ending = { end_line };
+
+    fn start(_alloc: Global, _pages: u32) -> Result<Show, Memory> {
+        Ok(Show)
+    }
+
+    #[tactic(auto, unfolding(crate::specs::Show::frame_lines))]
+    fn quiet_at_start() {}
 
     #[tactic(auto, unfolding(crate::specs::Show::frame_lines))]
     fn quiet(&self) {}
@@ -39,7 +48,7 @@ impl Responder for Show {
     }
 
     #[tactic(auto, unfolding(crate::specs::Show::end_line))]
-    fn end(&self, end: End, out: &mut Vec<u8>) -> Result<(), Memory> {
+    fn end(end: End, out: &mut Vec<u8>) -> Result<(), Memory> {
         match end {
             End::Ended => Ok(()),
             End::Malformed { reason, at } => {

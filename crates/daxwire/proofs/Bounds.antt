@@ -1,13 +1,8 @@
--- What showing a stream writes for no frames, and how much it reads.
-use Rattle.std.proofs.Common.{◌≡◌, ◌+◌, List, [], Option, ℕ, arith, refl}
+-- How much of a stream is read.
+use Rattle.std.proofs.Common.{◌≡◌, ◌+◌, List, [], Option, ℕ, arith}
 use Rattle.dax_script.specs.Causes.{TakesAtMost}
 use Rattle.daxwire.specs.Frames.{limit}
 use Rattle.daxwire.specs.Courses.{PendingView, Took, chunk}
-use Rattle.daxwire.specs.Show.{frame_lines}
-
-pub no_lines : frame_lines [] ≡ []
-unfolding frame_lines
-no_lines = refl
 
 -- what was read is bounded
 pub most_of : (p p' : PendingView) (left left' : Option (List ℕ)) → p ≡ record { rest = []; at = 0 } → Took p p' left left' → TakesAtMost (limit + chunk) left left'
