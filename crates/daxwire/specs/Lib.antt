@@ -2,6 +2,8 @@ pub mod Commands
 pub mod Courses
 pub mod Frames
 pub mod Headers
+pub mod RingImage
+pub mod RingText
 pub mod Run
 pub mod Serve
 pub mod Show

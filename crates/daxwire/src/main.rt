@@ -13,12 +13,22 @@ mod commands;
 mod frame_tests;
 mod frames;
 mod headers;
+mod images;
 #[cfg(test)]
 mod malformed_tests;
 #[cfg(test)]
 mod pending_tests;
 mod pendings;
+mod queue_devices;
 mod responding;
+#[cfg(test)]
+mod ring_chain_tests;
+#[cfg(test)]
+mod ring_fault_tests;
+mod ring_lines;
+#[cfg(test)]
+mod ring_tests;
+mod rings;
 #[cfg(test)]
 mod run_tests;
 mod runs;

@@ -123,8 +123,8 @@ fn read_more<S: Source>(bytes: &mut Vec<u8>, source: &mut S) -> Result<usize, Fi
     }
 }
 
-// Takes the first `n` bytes away, and keeps the room.
-fn remove_front(bytes: &mut Vec<u8>, n: usize)
+/// Takes the first `n` bytes away, and keeps the room.
+pub fn remove_front(bytes: &mut Vec<u8>, n: usize)
     requires { n ≤ length bytes.old.items }
     ensures { bytes.new.items ≡ drop n bytes.old.items }
 {

@@ -51,7 +51,8 @@ pub struct Ends {
 
 pub const SURE: Ends = Ends { piece: 0, fails: 0 };
 
-fn calls(alloc: Global, fails: u64) -> Result<List<u64>, Memory> {
+/// The number of the call that fails, if one does, as a list.
+pub fn calls(alloc: Global, fails: u64) -> Result<List<u64>, Memory> {
     let mut calls = List::new(alloc);
     if fails != 0 {
         calls.push(fails)?;

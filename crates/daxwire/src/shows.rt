@@ -95,9 +95,10 @@ fn put_frame(alloc: Global, front: Front, bytes: &[u8], out: &mut Vec<u8>) -> Re
     }
 }
 
-// Adds the line of what the readable bytes of a chain are.
+/// Adds the line of what the readable bytes of a chain are, without its end. `Memory` is the only
+/// error; nothing is known of the text then.
 #[tactic(auto, unfolding(crate::specs::Show::chain_line))]
-fn put_chain(alloc: Global, readable: &[u8], out: &mut Vec<u8>) -> Result<(), Memory>
+pub fn put_chain(alloc: Global, readable: &[u8], out: &mut Vec<u8>) -> Result<(), Memory>
     requires { length readable.now ≤ max_part }
     ensures { OnOk result (out.new.items ≡ out.old.items ++ chain_line (message_of readable.now)) }
 {
@@ -108,13 +109,15 @@ fn put_chain(alloc: Global, readable: &[u8], out: &mut Vec<u8>) -> Result<(), Me
     }
 }
 
-fn put_number(out: &mut Vec<u8>, number: u64) -> Result<(), Memory>
+/// Adds a number in decimal. After `Memory` nothing is known of the text.
+pub fn put_number(out: &mut Vec<u8>, number: u64) -> Result<(), Memory>
     ensures { OnOk result (out.new.items ≡ out.old.items ++ decimal number) }
 {
     put(out, Buffer::new().format(number).as_bytes())
 }
 
-fn put(out: &mut Vec<u8>, text: &[u8]) -> Result<(), Memory>
+/// Adds a text. After `Memory` nothing is known of it.
+pub fn put(out: &mut Vec<u8>, text: &[u8]) -> Result<(), Memory>
     ensures { OnOk result (out.new.items ≡ out.old.items ++ text.now) }
 {
     out.extend_from_slice(text)?;

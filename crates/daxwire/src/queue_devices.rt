@@ -1,0 +1,154 @@
+ghost use Rattle.std.specs.Prelude.{◌≡◌, ◌≤◌, ◌<◌, ◌^◌, length, Ok, Some, None, Err, IfOk, OnOk};
+ghost use Rattle.fuse_codec.specs.Grammar.{max_part};
+ghost use Rattle.daemon_core.specs.Promises.{IsServable, world};
+ghost use Rattle.vring.specs.Layout.{IsLayout};
+ghost use Rattle.vring.specs.Chain.{ChainLiesIn, chain_at};
+ghost use Rattle.daxwire.specs.RingText.{offered, popped, answered, answer_to, readable_in, lines_of, IsAnswer, Advances};
+
+use crate::ring_lines::put_chain_lines;
+use daemon_core::Daemon;
+use page_map::PageMap;
+use plain_file::{Blob, Memory, PlainFiles};
+use std::alloc::Global;
+use std::marker::Model;
+use vring::{Chain, GuestMem, PopError, Ring, RingFault, gather_into, scatter};
+
+/// The device behind a virtqueue: the daemon with its files and the map of its window, the guest's
+/// memory, and the ring in it. Contracts see the device with its boards, the memory's bytes, and the
+/// ring.
+#[derive(Debug, Drop)]
+pub struct QueueDevice {
+    daemon: Daemon,
+    files: PlainFiles,
+    map: PageMap,
+    memory: GuestMem,
+    ring: Ring,
+    available: u64,
+}
+
+/// What came of the turn for one chain.
+#[derive(Clone, Copy, Debug, PartialEq, Eq)]
+pub enum Turn {
+    /// A chain was served.
+    Served,
+    /// There was none.
+    Idle,
+    /// What stands in the memory is no chain.
+    Fault(RingFault),
+}
+
+impl Model for QueueDevice {
+    ghost use Rattle.std.specs.Prelude.{◌≡◌, length};
+    ghost use Rattle.daemon_core.specs.Promises.{IsServable, world};
+    ghost use Rattle.vring.specs.Layout.{IsLayout};
+    ghost use Rattle.daxwire.specs.RingImage.{DeviceView};
+
+    ghost Value = { DeviceView };
+
+    ghost view = { λ d. record { world = world d.daemon d.files d.map; memory = d.memory; ring = d.ring } };
+
+    ghost invariant = { λ d. IsServable (world d.daemon d.files d.map) × IsLayout d.ring.layout × (length d.memory ≡ d.ring.layout.memory) × (d.available ≡ d.ring.layout.available) };
+}
+
+impl QueueDevice {
+    /// The device of these parts. The memory is as long as the one that the ring was made with,
+    /// `available` is the address of its available ring, and the boards are the device's own, on which
+    /// any request can be served.
+    pub fn new(
+        daemon: Daemon,
+        files: PlainFiles,
+        map: PageMap,
+        memory: GuestMem,
+        ring: Ring,
+        available: u64,
+    ) -> QueueDevice
+        requires servable { IsServable (world daemon files map) }
+        requires layout { IsLayout ring.layout }
+        requires memory { length memory ≡ ring.layout.memory }
+        requires available { available ≡ ring.layout.available }
+        ensures { result ≡ record { world = world daemon files map; memory = memory; ring = ring } }
+    {
+        QueueDevice {
+            daemon,
+            files,
+            map,
+            memory,
+            ring,
+            available,
+        }
+    }
+
+    /// The guest's memory.
+    pub fn memory(&self) -> &GuestMem
+        ensures { result.now ≡ self.now.memory }
+    {
+        &self.memory
+    }
+
+    /// How many chains are offered now: so far is the available index in the memory ahead of the seen
+    /// one, modulo 2^16.
+    #[tactic(auto, unfolding(crate::specs::RingText::offered, vring::specs::Bytes::u16_at))]
+    pub fn offered(&self) -> u16
+        ensures { result ≡ offered self.now }
+    {
+        let mut index = [0u8; 2];
+        self.memory.read(self.available + 2, &mut index).unwrap();
+        u16::from_le_bytes(index).wrapping_sub(self.ring.seen())
+    }
+
+    // Answers a chain that was popped, whose readable bytes these are.
+    fn answer(&mut self, alloc: Global, chain: &Chain, readable: &[u8]) -> Result<Blob, Memory>
+        requires lies { ChainLiesIn (length self.old.memory) chain.now }
+        requires readable { readable.now ≡ readable_in self.old chain.now }
+        requires within { length readable.now ≤ max_part }
+        ensures answer { IfOk result (λ b. b ≡ answer_to self.old chain.now) }
+        ensures len { IfOk result (λ b. length b ≤ max_part) }
+        ensures device { OnOk result (self.new ≡ answered self.old chain.now) }
+        ensures reply { IfOk result (IsAnswer readable.now) }
+    {
+        let room = chain.writable.sum() as u32;
+        let answer = self
+            .daemon
+            .serve_chain(alloc, readable, room, &mut self.files, &mut self.map)?;
+        let len = scatter(&mut self.memory, chain, answer.as_slice()).unwrap();
+        self.ring.push_used(&mut self.memory, chain.head, len);
+        Ok(answer)
+    }
+
+    // Puts the readable bytes of a chain that was popped in place of these.
+    #[tactic(auto, using(crate::proofs::DeviceAnswers::gathered_within))]
+    fn gather(&self, chain: &Chain, readable: &mut Vec<u8>) -> Result<(), Memory>
+        requires lies { ChainLiesIn (length self.now.memory) chain.now }
+        ensures readable { OnOk result (readable.new.items ≡ readable_in self.now chain.now) }
+        ensures within { OnOk result (length readable.new.items ≤ max_part) }
+    {
+        readable.clear();
+        gather_into(&self.memory, chain, readable)
+    }
+
+    /// Serves the next chain, where there is one, and adds its four lines to a text. `chain` and
+    /// `readable` are room that is used again from chain to chain; nothing is said of them.
+    ///
+    /// After a fault, and where there is no chain, the device and the text are as they were. After
+    /// `Memory`, which comes where an allocation was refused, nothing is known of either.
+    pub fn serve_next(
+        &mut self,
+        alloc: Global,
+        chain: &mut Chain,
+        readable: &mut Vec<u8>,
+        out: &mut Vec<u8>,
+    ) -> Result<Turn, Memory>
+        ensures { IfOk result (λ turn. Advances self.old out.old.items turn self.new out.new.items) }
+    {
+        match self.ring.pop_into(&self.memory, chain) {
+            Ok(true) => {}
+            Ok(false) => return Ok(Turn::Idle),
+            Err(PopError::Fault(fault)) => return Ok(Turn::Fault(fault)),
+            Err(PopError::Memory) => return Err(Memory),
+        }
+        self.gather(chain, readable)?;
+        let answer = self.answer(alloc, chain, readable)?;
+        put_chain_lines(alloc, chain, readable, answer.as_slice(), out)?;
+        Ok(Turn::Served)
+    }
+}
