@@ -96,7 +96,7 @@ fn names_a_part_that_is_too_long(rt: HostRuntime) -> Result<(), Fail> {
     queue.describe(0, &[(0, 1_048_576, NEXT, 1), (0, 1_048_576, 0, 0)])?;
     queue.make_available(1, 0, &[0])?;
     let (status, told) = rang(alloc, &queue.image(alloc, 0)?)?;
-    assert_eq!(rt; told.as_slice(), b"fault long\n");
+    assert_eq!(rt; told.as_slice(), b"fault long\n".as_slice());
     assert_eq!(rt; status, Status::Refused);
     Ok(())
 }
@@ -227,7 +227,7 @@ fn refuses_what_is_no_image(rt: HostRuntime) -> Result<(), Fail> {
     ];
     for (name, head) in heads {
         let (status, told) = rang(alloc, &head.image(alloc, &memory)?)?;
-        assert_eq!(rt; told.as_slice(), b"malformed image\n", "{name}");
+        assert_eq!(rt; told.as_slice(), b"malformed image\n".as_slice(), "{name}");
         assert_eq!(rt; status, Status::Refused, "{name}");
     }
     let good = [
@@ -265,7 +265,7 @@ fn refuses_an_image_that_is_cut(rt: HostRuntime) -> Result<(), Fail> {
     for len in [0usize, 1, 7, 8, 12, 43, 44, 45, 1067] {
         if len <= image.len() {
             let (status, told) = rang(alloc, image.split_at(len).0)?;
-            assert_eq!(rt; told.as_slice(), b"malformed image\n", "{len} bytes");
+            assert_eq!(rt; told.as_slice(), b"malformed image\n".as_slice(), "{len} bytes");
             assert_eq!(rt; status, Status::Refused, "{len} bytes");
         }
     }
