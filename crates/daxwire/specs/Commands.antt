@@ -9,6 +9,7 @@ unfoldable pub command_named : List ℕ → Option Command
 command_named name =
     if bytes_eq name (codes "show") then Some commands.Show
     else if bytes_eq name (codes "serve") then Some commands.Serve
+    else if bytes_eq name (codes "ring") then Some commands.Ring
     else None
 
 -- the command that words are: one word, its name

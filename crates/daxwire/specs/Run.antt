@@ -1,5 +1,6 @@
 -- What a run writes, and when it ends with which status.
 use Rattle.std.specs.Prelude.{ℕ, List, codes, Option, Some, None}
+use Rattle.std.specs.Io.KnownBytes.{Keeps}
 use Rattle.dax_script.specs.declared.statuses.Status.{Status}
 use Rattle.dax_script.specs.declared.statuses.Status.TheVariants as statuses
 use Rattle.daxwire.specs.declared.commands.Command.{Command}
@@ -7,6 +8,7 @@ use Rattle.daxwire.specs.declared.commands.Command.TheVariants as commands
 use Rattle.daxwire.specs.Commands.{command_of}
 use Rattle.daxwire.specs.Courses.{Course, IsCutOff, course_by, course_of, due, status_of}
 use Rattle.daxwire.specs.Serve.{fault_output, first_world, outputs}
+use Rattle.daxwire.specs.RingText.{ring_text, ring_status}
 use Rattle.daxwire.specs.Show.{frame_lines, end_line}
 
 abbrev pub usage_line : List ℕ
@@ -41,12 +43,14 @@ abbrev pub text_of : Option Command → List ℕ → List ℕ
 text_of None input = usage_line
 text_of (Some commands.Show) input = show_text input
 text_of (Some commands.Serve) input = serve_text input
+text_of (Some commands.Ring) input = ring_text input
 
 -- the status that is due for it
 abbrev pub status_for : Option Command → List ℕ → Status
 status_for None input = statuses.Usage
 status_for (Some commands.Show) input = show_status input
 status_for (Some commands.Serve) input = serve_status input
+status_for (Some commands.Ring) input = ring_status input
 
 -- the text that is due for these words and this input
 abbrev pub due_text : List (List ℕ) → List ℕ → List ℕ
@@ -56,11 +60,12 @@ due_text words input = text_of (command_of words) input
 abbrev pub due_status : List (List ℕ) → List ℕ → Status
 due_status words input = status_for (command_of words) input
 
--- What a command has written, where the source failed: it streams, so these are the answers to the frames that were read whole.
+-- What a command has written, where the source failed: where it streams, the answers to the frames that were read whole, and else nothing.
 abbrev pub IsStopped : Option Command → Option (List ℕ) → Option (List ℕ) → Option (List ℕ) → Option (List ℕ) → Type 0
 IsStopped None left left' taken taken' = ⊥
 IsStopped (Some commands.Show) left left' taken taken' = IsCutOff shown left left' taken taken'
 IsStopped (Some commands.Serve) left left' taken taken' = IsCutOff served left left' taken taken'
+IsStopped (Some commands.Ring) left left' taken taken' = Keeps taken taken'
 
 -- where neither the source nor the sink failed, and memory was found
 abbrev pub IfFinished : Status → Type 0 → Type 0

@@ -10,6 +10,8 @@ pub enum Command {
     Show,
     /// To serve a chain stream, one output frame for each frame.
     Serve,
+    /// To read a ring image, serve the chains that it offers, and print what came of them.
+    Ring,
 }
 
 impl Command {
@@ -32,6 +34,8 @@ impl Command {
             Some(Command::Show)
         } else if name == b"serve".as_slice() {
             Some(Command::Serve)
+        } else if name == b"ring".as_slice() {
+            Some(Command::Ring)
         } else {
             None
         }

@@ -1,11 +1,14 @@
-//! Shows what is recorded in a chain stream: each FUSE request, load and store as one line.
+//! Shows what is recorded in a chain stream: each FUSE request, load and store as one line. And serves
+//! the chains that stand in a guest's memory, and prints what came of each.
 //!
 //! `main` makes the real source, sink and words, and calls `runs::run_wire`, whose contract is the
 //! program's. A stream is cut by `frames` as it comes through `pendings`; `responding` answers its
-//! frames one by one, whatever the answers are, and `shows` gives each its line. The definitions stand
-//! in `specs/`: `Frames` (the frames of a whole input), `Headers` (its header), `Show` (the lines),
-//! `Courses` (what becomes of a stream, and what was done of it), `Run` (what a run writes with which
-//! status).
+//! frames one by one, whatever the answers are, and `shows` gives each its line. A ring image is opened
+//! by `images`, and served chain by chain by `queue_devices`; `ring_lines` has its lines, `rings` the
+//! whole. The definitions stand in `specs/`: `Frames` (the frames of a whole input), `Headers` (its
+//! header), `Show` (the lines), `Courses` (what becomes of a stream, and what was done of it),
+//! `RingImage` (the device that an image stands for), `RingText` (what serving it prints), `Commands`
+//! and `Run` (what a run writes with which status).
 #![tactic(auto)]
 
 mod commands;

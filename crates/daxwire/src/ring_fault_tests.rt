@@ -265,7 +265,11 @@ fn refuses_an_image_that_is_cut(rt: HostRuntime) -> Result<(), Fail> {
     for len in [0usize, 1, 7, 8, 12, 43, 44, 45, 1067] {
         if len <= image.len() {
             let (status, told) = rang(alloc, image.split_at(len).0)?;
-            assert_eq!(rt; told.as_slice(), b"malformed image\n".as_slice(), "{len} bytes");
+            assert_eq!(rt;
+                told.as_slice(),
+                b"malformed image\n".as_slice(),
+                "{len} bytes"
+            );
             assert_eq!(rt; status, Status::Refused, "{len} bytes");
         }
     }

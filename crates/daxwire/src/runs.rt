@@ -14,6 +14,7 @@ use crate::frames::{End, Reason};
 use crate::headers::read_header;
 use crate::pendings::{FillError, Pending};
 use crate::responding::{Responder, finish, respond};
+use crate::rings::ring;
 use crate::serves::Serve;
 use crate::shows::Show;
 use dax_script::{Sink, Source, Status, Word, write_all};
@@ -22,21 +23,24 @@ use std::alloc::Global;
 
 /// Runs the program. With the word `show` it reads a chain stream from the source and writes one line
 /// for each frame to the sink; with the word `serve` it serves the stream and writes one output frame
-/// for each frame. Every text goes to the sink. It returns always.
+/// for each frame. With the word `ring` it reads a ring image, serves the chains that it offers, and
+/// writes what came of them. Every text goes to the sink. It returns always.
 ///
-/// The answers to the whole frames that were read are written before more is read. No more than one
-/// frame and one read of 65,536 bytes is kept, whatever the stream's length. The statuses:
+/// The answers to the whole frames of a stream that were read are written before more is read. No more
+/// than one frame and one read of 65,536 bytes is kept, whatever the stream's length. An image is read
+/// whole before anything is written. The statuses:
 ///
-/// - `Ok`: the source was read to its end, which is behind a whole frame or the header, and all answers
-///   were taken.
-/// - `Refused`: the stream is malformed, and the last line or output frame, which was taken, says why and
-///   where.
+/// - `Ok`: the source was read to its end, which for a stream is behind a whole frame or the header, and
+///   all answers were taken.
+/// - `Refused`: the input is malformed, or the image's ring has a fault, and the last line or output
+///   frame, which was taken, says why.
 /// - `Usage`: the words are no command, and the usage line was taken; nothing was read.
-/// - `ReadFault`: the source failed; the answers to the frames that were read whole before were taken.
+/// - `ReadFault`: the source failed; the answers to the frames that were read whole before were taken,
+///   and of an image nothing.
 /// - `WriteFault`: the sink failed; what was taken is a front of the text due, and not all of it.
 /// - `Memory`: an allocation was refused; what was taken is a front of the text due.
-/// - `TooLong`: the source has more than 268,435,456 bytes, of which these have nothing malformed. `show`
-///   writes the last line `too long` for it, `serve` nothing.
+/// - `TooLong`: the source has more than 268,435,456 bytes, of which, in a stream, these have nothing
+///   malformed. `show` and `ring` write the last line `too long` for it, `serve` nothing.
 pub fn run_wire<S: Source, K: Sink>(
     alloc: Global,
     words: &[Word],
@@ -61,6 +65,7 @@ pub fn run_wire<S: Source, K: Sink>(
     match Command::of(words) {
         Some(Command::Show) => answer_stream::<Show, S, K>(alloc, source, sink),
         Some(Command::Serve) => answer_stream::<Serve, S, K>(alloc, source, sink),
+        Some(Command::Ring) => ring(alloc, source, sink),
         None => tell_usage(sink),
     }
 }
