@@ -6,7 +6,9 @@ use Rattle.vring.specs.Layout.{is_allowed, IsLayout}
 use Rattle.vring.specs.Ring.{RingView, new_ring}
 use Rattle.vring.proofs.LayoutLemmas.{layout_if}
 use Rattle.fuse_wire.specs.Records.{u16_at, u32_at, u64_at}
-use Rattle.daxwire.specs.RingImage.{DeviceView, is_image, image_header_len, first_world, device_in, device_with, image_ring}
+use Rattle.daxwire.specs.RingImage.{DeviceView, is_image, image_header_len, device_in, device_with, image_ring}
+use Rattle.daemon_core.specs.State.{World}
+use Rattle.daxwire.specs.Serve.{first_world}
 
 made_by : (b : Bool) (x r : RingView) → Some r ≡ cond b (Some x) None → (b ≡ true) × (r ≡ x)
 made_by true x r e = (refl, cc)
@@ -29,3 +31,7 @@ unfolding device_in
 device_made input memory ring pages size start descriptors available used image is p s f d a u made =
     let found : image_ring input ≡ Some ring = sym (rw (s, f, d, a, u, is) at made) in
     rw (p, is) (sym (rw (image, found) refl))
+
+-- the same, where the device's parts are known by equations
+pub device_is : (d : DeviceView) (w w' : World) (memory : List ℕ) (ring : RingView) → d ≡ record { world = w; memory = memory; ring = ring } → w ≡ w' → d ≡ record { world = w'; memory = memory; ring = ring }
+device_is d w w' memory ring e same = rw e (rw same refl)

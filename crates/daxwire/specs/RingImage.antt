@@ -1,15 +1,12 @@
 -- A ring image: a guest's memory with a split virtqueue in it, and where the queue lies.
-use Rattle.std.specs.Prelude.{ℕ, ◌+◌, ◌==◌, Bool, ◌&&◌, nat_le, List, [], length, take, drop, replicate, codes, Option, None, option_map, if◌then◌else◌}
+use Rattle.std.specs.Prelude.{ℕ, ◌+◌, ◌==◌, Bool, ◌&&◌, nat_le, List, [], length, take, drop, codes, Option, None, option_map, if◌then◌else◌}
 use Rattle.std.specs.Str.{bytes_eq}
 use Rattle.fuse_wire.specs.Records.{u16_at, u32_at, u64_at}
-use Rattle.plain_file.specs.declared.operations.First.{First}
-use Rattle.plain_file.specs.Plain.{new_board}
-use Rattle.page_map.specs.Plain.{new_map}
-use Rattle.daemon_core.specs.State.{World, new_state}
-use Rattle.daemon_core.specs.Promises.{world}
+use Rattle.daemon_core.specs.State.{World}
 use Rattle.vring.specs.Bytes.{max_memory}
 use Rattle.vring.specs.Ring.{RingView, new_ring}
 use Rattle.vring.specs.declared.layouts.Layout.{Layout}
+use Rattle.daxwire.specs.Serve.{first_world}
 
 -- the device behind a queue: what it holds with its boards, the guest's memory, and the ring in it
 pub record DeviceView : Type 0 where
@@ -34,14 +31,6 @@ image_layout input = record { size = u16_at input 12; descriptors = u64_at input
 -- the ring, whose indices begin where the image says
 abbrev pub image_ring : List ℕ → Option RingView
 image_ring input = new_ring (image_layout input) (u16_at input 14)
-
--- 16 files without a byte
-abbrev pub empty_files : List First
-empty_files = replicate 16 (record { size = 0; fill = 0 })
-
--- a device without a session and without files, with a window of so many pages
-abbrev pub first_world : ℕ → World
-first_world pages = world (new_state pages []) (new_board 0 empty_files) (new_map pages)
 
 -- the device behind this ring of an image
 abbrev pub device_with : List ℕ → RingView → DeviceView

@@ -1,15 +1,12 @@
 ghost use Rattle.std.specs.Prelude.{◌≡◌, ◌≤◌, ◌+◌, length, drop, true, IfOk};
-ghost use Rattle.daxwire.specs.RingImage.{is_image, image_header_len, first_world, device_in, empty_files};
-ghost use Rattle.daemon_core.specs.Promises.{IsServable, world};
+ghost use Rattle.daxwire.specs.RingImage.{is_image, image_header_len, device_in};
 ghost use Rattle.vring.specs.Bytes.{max_memory};
-ghost use Rattle.vring.specs.Layout.{IsLayout};
 
+use crate::devices::Device;
 use crate::pendings::remove_front;
 use crate::queue_devices::QueueDevice;
-use daemon_core::Daemon;
 use fuse_wire::{u16_at, u32_at, u64_at};
-use page_map::PageMap;
-use plain_file::{Blob, First, List, Memory, PlainFiles};
+use plain_file::{Blob, Memory};
 use std::alloc::Global;
 use vring::{GuestMem, Ring};
 
@@ -47,27 +44,6 @@ fn memory_of(input: Blob) -> GuestMem
     GuestMem::new(Blob::from_vec(bytes))
 }
 
-// A device on which nothing was done yet: a window of so many pages, no file, and 16 to make.
-#[tactic(auto, using(daemon_core::proofs::Servable::servable_at_start, daemon_core::proofs::Servable::none_distinct))]
-fn first_device(
-    alloc: Global,
-    pages: u32,
-    memory: GuestMem,
-    ring: Ring,
-    available: u64,
-) -> Result<QueueDevice, Memory>
-    requires layout { IsLayout ring.layout }
-    requires memory { length memory ≡ ring.layout.memory }
-    requires available { available ≡ ring.layout.available }
-    ensures { IfOk result (λ d. d ≡ record { world = first_world pages; memory = memory; ring = ring }) }
-{
-    let firsts = List::from_vec(Vec::from_slice(alloc, &[First { size: 0, fill: 0 }; 16])?);
-    let daemon = Daemon::new(alloc, pages, &List::new(alloc))?;
-    let files = PlainFiles::new(alloc, 0, &firsts)?;
-    let map = PageMap::new(alloc, pages)?;
-    Ok(QueueDevice::new(daemon, files, map, memory, ring, available))
-}
-
 /// The device that a ring image stands for: eight bytes `DAXRING1`, the window's pages (u32, at most
 /// 131,072), the queue's size and the index from which both of its indices begin (u16 each), the
 /// addresses of the descriptors, the available ring and the used ring (u64 each), the memory's
@@ -88,7 +64,10 @@ pub fn open_image(alloc: Global, input: Blob) -> Result<Option<QueueDevice>, Mem
     let (descriptors, available, used) = (u64_at(bytes, 16), u64_at(bytes, 24), u64_at(bytes, 32));
     let memory = memory_of(input);
     match Ring::new(size, start, descriptors, available, used, &memory) {
-        Some(ring) => Ok(Some(first_device(alloc, pages, memory, ring, available)?)),
+        Some(ring) => {
+            let device = Device::new(alloc, pages)?;
+            Ok(Some(QueueDevice::new(device, memory, ring, available)))
+        }
         None => Ok(None),
     }
 }

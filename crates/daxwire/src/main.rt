@@ -1,17 +1,21 @@
-//! Shows what is recorded in a chain stream: each FUSE request, load and store as one line. And serves
-//! the chains that stand in a guest's memory, and prints what came of each.
+//! Shows what is recorded in a chain stream: each FUSE request, load and store as one line. Serves such a
+//! stream as a device, one output frame for each frame. And serves the chains that stand in a guest's
+//! memory, and prints what came of each.
 //!
 //! `main` makes the real source, sink and words, and calls `runs::run_wire`, whose contract is the
 //! program's. A stream is cut by `frames` as it comes through `pendings`; `responding` answers its
-//! frames one by one, whatever the answers are, and `shows` gives each its line. A ring image is opened
-//! by `images`, and served chain by chain by `queue_devices`; `ring_lines` has its lines, `rings` the
-//! whole. The definitions stand in `specs/`: `Frames` (the frames of a whole input), `Headers` (its
-//! header), `Show` (the lines), `Courses` (what becomes of a stream, and what was done of it),
-//! `RingImage` (the device that an image stands for), `RingText` (what serving it prints), `Commands`
-//! and `Run` (what a run writes with which status).
+//! frames one by one, whatever the answers are: `shows` gives each its line, `serves` its output frame
+//! by a device of `devices`. A ring image is opened by `images`, and served chain by chain by
+//! `queue_devices`; `ring_lines` has its lines, `rings` the whole.
+//!
+//! The definitions stand in `specs/`: `Frames` (the frames of a whole input), `Headers` (its header),
+//! `Show` (the lines), `Serve` (the output frames), `Courses` (what becomes of a stream, and what was
+//! done of it), `RingImage` (the device that an image stands for), `RingText` (what serving it prints),
+//! `Commands` and `Run` (what a run writes with which status).
 #![tactic(auto)]
 
 mod commands;
+mod devices;
 #[cfg(test)]
 mod frame_tests;
 mod frames;

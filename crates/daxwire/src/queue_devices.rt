@@ -1,26 +1,21 @@
 ghost use Rattle.std.specs.Prelude.{◌≡◌, ◌≤◌, ◌<◌, ◌^◌, length, Ok, Some, None, Err, IfOk, OnOk};
 ghost use Rattle.fuse_codec.specs.Grammar.{max_part};
-ghost use Rattle.daemon_core.specs.Promises.{IsServable, world};
 ghost use Rattle.vring.specs.Layout.{IsLayout};
 ghost use Rattle.vring.specs.Chain.{ChainLiesIn, chain_at};
 ghost use Rattle.daxwire.specs.RingText.{offered, popped, answered, answer_to, readable_in, lines_of, IsAnswer, Advances};
 
+use crate::devices::Device;
 use crate::ring_lines::put_chain_lines;
-use daemon_core::Daemon;
-use page_map::PageMap;
-use plain_file::{Blob, Memory, PlainFiles};
+use plain_file::{Blob, Memory};
 use std::alloc::Global;
 use std::marker::Model;
 use vring::{Chain, GuestMem, PopError, Ring, RingFault, gather_into, scatter};
 
-/// The device behind a virtqueue: the daemon with its files and the map of its window, the guest's
-/// memory, and the ring in it. Contracts see the device with its boards, the memory's bytes, and the
+/// The device behind a virtqueue: the device itself, the guest's memory, and the ring in it. Contracts see the device with its boards, the memory's bytes, and the
 /// ring.
 #[derive(Debug, Drop)]
 pub struct QueueDevice {
-    daemon: Daemon,
-    files: PlainFiles,
-    map: PageMap,
+    device: Device,
     memory: GuestMem,
     ring: Ring,
     available: u64,
@@ -39,39 +34,32 @@ pub enum Turn {
 
 impl Model for QueueDevice {
     ghost use Rattle.std.specs.Prelude.{◌≡◌, length};
-    ghost use Rattle.daemon_core.specs.Promises.{IsServable, world};
     ghost use Rattle.vring.specs.Layout.{IsLayout};
     ghost use Rattle.daxwire.specs.RingImage.{DeviceView};
 
     ghost Value = { DeviceView };
 
-    ghost view = { λ d. record { world = world d.daemon d.files d.map; memory = d.memory; ring = d.ring } };
+    ghost view = { λ d. record { world = d.device; memory = d.memory; ring = d.ring } };
 
-    ghost invariant = { λ d. IsServable (world d.daemon d.files d.map) × IsLayout d.ring.layout × (length d.memory ≡ d.ring.layout.memory) × (d.available ≡ d.ring.layout.available) };
+    ghost invariant = { λ d. IsLayout d.ring.layout × (length d.memory ≡ d.ring.layout.memory) × (d.available ≡ d.ring.layout.available) };
 }
 
 impl QueueDevice {
-    /// The device of these parts. The memory is as long as the one that the ring was made with,
-    /// `available` is the address of its available ring, and the boards are the device's own, on which
-    /// any request can be served.
+    /// The device of these parts. The memory is as long as the one that the ring was made with, and
+    /// `available` is the address of its available ring.
     pub fn new(
-        daemon: Daemon,
-        files: PlainFiles,
-        map: PageMap,
+        device: Device,
         memory: GuestMem,
         ring: Ring,
         available: u64,
     ) -> QueueDevice
-        requires servable { IsServable (world daemon files map) }
         requires layout { IsLayout ring.layout }
         requires memory { length memory ≡ ring.layout.memory }
         requires available { available ≡ ring.layout.available }
-        ensures { result ≡ record { world = world daemon files map; memory = memory; ring = ring } }
+        ensures { result ≡ record { world = device; memory = memory; ring = ring } }
     {
         QueueDevice {
-            daemon,
-            files,
-            map,
+            device,
             memory,
             ring,
             available,
@@ -107,9 +95,7 @@ impl QueueDevice {
         ensures reply { IfOk result (IsAnswer readable.now) }
     {
         let room = chain.writable.sum() as u32;
-        let answer = self
-            .daemon
-            .serve_chain(alloc, readable, room, &mut self.files, &mut self.map)?;
+        let answer = self.device.reply(alloc, readable, room)?;
         let len = scatter(&mut self.memory, chain, answer.as_slice()).unwrap();
         self.ring.push_used(&mut self.memory, chain.head, len);
         Ok(answer)

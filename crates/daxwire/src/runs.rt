@@ -10,12 +10,12 @@ ghost use Rattle.daxwire.specs.Commands.{command_of};
 ghost use Rattle.daxwire.specs.Run.{usage_line, shown, due_text, due_status, IsStopped, IfFinished, IsUsageOrWriteFault, IsOkOrMemory};
 
 use crate::commands::Command;
+use crate::devices::Device;
 use crate::frames::{End, Reason};
 use crate::headers::read_header;
 use crate::pendings::{FillError, Pending};
 use crate::responding::{Responder, finish, respond};
 use crate::rings::ring;
-use crate::serves::Serve;
 use crate::shows::Show;
 use dax_script::{Sink, Source, Status, Word, write_all};
 use plain_file::Memory;
@@ -64,7 +64,7 @@ pub fn run_wire<S: Source, K: Sink>(
 {
     match Command::of(words) {
         Some(Command::Show) => answer_stream::<Show, S, K>(alloc, source, sink),
-        Some(Command::Serve) => answer_stream::<Serve, S, K>(alloc, source, sink),
+        Some(Command::Serve) => answer_stream::<Device, S, K>(alloc, source, sink),
         Some(Command::Ring) => ring(alloc, source, sink),
         None => tell_usage(sink),
     }

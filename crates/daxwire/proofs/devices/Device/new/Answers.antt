@@ -1,7 +1,7 @@
 use Rattle.std.proofs.Common.{rules}
 use Rattle.daemon_core.proofs.Servable.{none_distinct}
 use Rattle.daxwire.proofs.Serving.{serving_new}
-use Rattle.daxwire.proofs.serves.Serve.new.Goals as goal
+use Rattle.daxwire.proofs.devices.Device.new.Goals as goal
 
 pub new-requires-2-clause-different : goal.new-requires-2-clause-different
 new-requires-2-clause-different c = none_distinct _ c.new.ensures
