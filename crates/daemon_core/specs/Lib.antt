@@ -9,3 +9,4 @@ pub mod Requests
 pub mod Steps
 pub mod Promises
 pub mod DataSteps
+pub mod OpenFiles
