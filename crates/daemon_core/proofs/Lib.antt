@@ -1,10 +1,7 @@
 pub mod Allowed
 pub mod Examples
-pub mod Decoding
-pub mod Laws
 pub mod OpenHandles
 pub mod Receiving
-pub mod Ready
 pub mod Unlooks
 pub mod Clears
 pub mod Numbering

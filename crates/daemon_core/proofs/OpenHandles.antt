@@ -114,7 +114,7 @@ device_step-succeeds w m reply new readable room s h fits =
 
 -- ---- nodes and handles
 
-is_file : (s : State) (node : ℕ) → is_made s node ≡ true → (node == 1) ≡ false
+pub is_file : (s : State) (node : ℕ) → is_made s node ≡ true → (node == 1) ≡ false
 unfolding is_made
 is_file s node made = grind (arith, common_steps)
 

@@ -2,7 +2,7 @@
 use Rattle.std.proofs.Common.{◌≡◌, ◌∙◌, sym, refl, arith, ◌<◌, ◌≤◌, ℕ, ◌+◌, ◌-◌, ◌*◌, ◌==◌, Bool, true, false, true≢false, IsTrue, List, [], ◌∷◌, ◌++◌, length, map, get_or, set, length-set, replicate, Option, Some, None, Result, Ok, Err, OnOk, OnErr, inl, inr, not, nat_lt, ◌||◌, if◌then◌else◌}
 use Rattle.std.proofs.lemmas.Bool.{cases_eq}
 use Rattle.std.proofs.lemmas.Grind.{common_steps}
-use Rattle.std.proofs.lemmas.List.{length-map, length-replicate, length-append, get_or-set_same, get_or-set_other}
+use Rattle.std.proofs.lemmas.List.{length-map, get_or-map, length-replicate, length-append, get_or-set_same, get_or-set_other}
 use Rattle.std.specs.List.{list_all, IsDistinct}
 use Rattle.std.specs.Str.{bytes_eq}
 use Rattle.fuse_codec.specs.Reading.{message_of}
@@ -17,7 +17,7 @@ use Rattle.fuse_wire.specs.declared.forgets.ForgetOne.{ForgetOne}
 use Rattle.fuse_wire.specs.declared.inits.InitIn.{InitIn}
 use Rattle.fuse_wire.specs.declared.mappings.RemoveOne.{RemoveOne}
 use Rattle.fuse_wire.specs.declared.mappings.SetupIn.{SetupIn}
-use Rattle.plain_file.specs.Board.{FileView, BoardView, no_file, file_at, with_own, entry_of, file_answer, may_apply, applied}
+use Rattle.plain_file.specs.Board.{FileView, BoardView, IsReady, no_file, file_at, with_own, entry_of, file_answer, may_apply, applied}
 use Rattle.plain_file.specs.Plain.{new_board, own_file}
 use Rattle.plain_file.specs.declared.operations.First.{First}
 use Rattle.plain_file.specs.declared.operations.Answer.{Answer}
@@ -35,7 +35,6 @@ use Rattle.daemon_core.specs.Checks.{Outcome, may_open, refuse, if_may_open}
 use Rattle.daemon_core.specs.Requests.{done, applies, attr_of, opens, closes, found, unlinked, opens_entry, makes_entry, created, resizes, forgotten, all_forgotten, span_of, is_bad_setup, init, destroy, getattr, setattr, open_file, open_dir, release, release_dir, sync, fallocate, read, write, lookup, unlink, create, forget, batch_forget, read_dir, setup, remove, answered, served}
 use Rattle.daemon_core.specs.Steps.{Step, judged_message, judged, forgot, replied, header_at, is_forget_number, device_step}
 use Rattle.daemon_core.specs.Promises.{IsServable, CanServe, CanStep, Needs, world}
-use Rattle.daemon_core.proofs.Ready.{IsOwn-new_board}
 use Rattle.daemon_core.proofs.Clears.{first_of_both, rest_of_both, wiped_len, painted_len, whole_window}
 
 -- the device and its boards are servable after an outcome
@@ -343,12 +342,18 @@ servable_serves s files map q h = record {
 pub servable_steps : (s : State) (files : BoardView) (map : MapView) (readable : List ℕ) → IsServable (world s files map) → CanStep s files map readable
 servable_steps s files map readable h m e = servable_serves s files map m.body h
 
+-- files on which nothing was done yet are ready
+ready-new_board : (guest : ℕ) (firsts : List First) → (file : ℕ) → file < length (new_board guest firsts).files → IsReady (new_board guest firsts) file
+ready-new_board guest firsts file within =
+    let inside : file < length firsts = rw (length-map firsts (λ (first : First). own_file first [])) at within in
+    rw (get_or-map (λ (first : First). own_file first []) firsts file (record { size = 0; fill = 0 }) no_file inside) refl
+
 -- a device on which nothing was done yet, with enough files of its own
 pub servable_at_start : (guest pages : ℕ) (names : List (List ℕ)) (firsts : List First) → length names ≤ 16 → 16 ≤ length firsts → IsServable (world (new_state pages names) (new_board guest firsts) (new_map pages))
 servable_at_start guest pages names firsts few enough = record {
   plain = refl;
   enough = rw (length-map firsts (λ (first : First). own_file first [])) enough;
-  ready = (IsOwn-new_board guest firsts).ready;
+  ready = ready-new_board guest firsts;
   few = rw (length-map names new_file) few;
   free = refl;
   pages = length-map (replicate pages None) (λ (p : Option Page). Some p) ∙ length-replicate pages None;

@@ -1,7 +1,3 @@
-pub mod Messages
-pub mod Replies
-pub mod Device
-pub mod Gives
 pub mod State
 pub mod Checks
 pub mod Entries

@@ -1,6 +1,5 @@
 pub mod OneGuest
-pub mod Replies
-pub mod Requests
+pub mod Asking
 pub mod Playing
 pub mod Printable
 pub mod Told

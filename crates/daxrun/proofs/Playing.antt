@@ -1,6 +1,8 @@
 -- One call more on the only file of a board.
 use Rattle.std.proofs.Common.{◌≡◌, ◌∙◌, ap, sym, subst, refl, ℕ, zero, suc, ◌+◌, ◌-◌, ◌<◌, Bool, true, IsTrue, List, [], ◌∷◌, ◌++◌, length, slice_get, Some, arith, length-append}
-use Rattle.std.proofs.lemmas.List.{length-set}
+use Rattle.std.proofs.lemmas.List.{length-set, length-replicate}
+use Rattle.std.specs.Str.{bytes_eq}
+use Rattle.std.proofs.lemmas.Slice.Eq.{bytes_eq-Decides}
 use Rattle.plain_file.specs.declared.operations.Entry.{Entry}
 use Rattle.plain_file.specs.declared.operations.Op.{Op}
 use Rattle.plain_file.specs.declared.operations.Way.TheVariants.{Req}
@@ -8,11 +10,15 @@ use Rattle.plain_file.specs.declared.operations.First.{First}
 use Rattle.plain_file.specs.File.{after, first_bytes}
 use Rattle.plain_file.specs.History.{bytes, after_all}
 use Rattle.plain_file.specs.Plain.{new_board}
-use Rattle.plain_file.specs.Board.{FileView, BoardView, file_at, with_own, entry_of, applied, marked, bytes_now, last_of}
+use Rattle.plain_file.specs.Board.{FileView, BoardView, file_at, with_own, entry_of, applied, marked, bytes_now, size_of, last_of}
 use Rattle.plain_file.proofs.Grows.{bytes-grown}
 use Rattle.plain_file.proofs.OneFile.{file_at-with_file}
-use Rattle.daemon_core.specs.Gives.{AreReady}
-use Rattle.daxrun.specs.Play.{IsPlayed}
+use Rattle.page_map.specs.Board.{MapView}
+use Rattle.daemon_core.specs.State.{State, World, new_state, begun, looked_up, named, is_made}
+use Rattle.daemon_core.specs.Checks.{is_known, may_open}
+use Rattle.daemon_core.specs.Promises.{IsServable, world}
+use Rattle.daxrun.specs.declared.client.FileRef.{FileRef}
+use Rattle.daxrun.specs.Play.{IsPlayed, IsOpened, firsts_of}
 
 pub bytes_now-with_own : (plain : Bool) (e : Entry) (f : FileView) → bytes_now (with_own plain e f) ≡ after (bytes_now f) e.op
 unfolding bytes_now
@@ -39,28 +45,58 @@ pub played : (v : BoardView) (n : ℕ) (op : Op) → IsPlayed n v → Played v (
 played v n op h =
     let m = marked v n Req in
     let f = with_own v.plain (entry_of m op) (file_at v 0) in
-    let there : 0 < length v.files = omega (arith, h.one) in
+    let there : 0 < length v.files = omega (arith, h.many) in
     let guest : f ≡ with_own v.plain (nth_entry n op) (file_at v 0) = ap (λ k. with_own v.plain (record { guest = k; call = n; op = op; way = Req }) (file_at v 0)) h.guest in
     let own : f ≡ with_own true (nth_entry n op) (file_at v 0) = guest ∙ ap (λ b. with_own b (nth_entry n op) (file_at v 0)) h.plain in
     let file : file_at (applied m 0 op) 0 ≡ with_own true (nth_entry n op) (file_at v 0) = file_at-with_file m 0 f there ∙ own in
-    let P : FileView → Type 0 = λ k. IsTrue k.ready in
     record {
       at = record {
         guest = h.guest;
         plain = h.plain;
-        one = length-set v.files 0 f ∙ h.one;
-        ready = subst P (sym file) refl;
+        many = length-set v.files 0 f ∙ h.many;
         count = ap (λ (k : FileView). length k.history) file ∙ length-append (file_at v 0).history (nth_entry n op ∷ []) ∙ ap (λ k. k + 1) h.count;
       };
       file = file;
     }
 
--- the only file is ready
-pub only_ready : (v : BoardView) (n : ℕ) → IsPlayed n v → AreReady v
-only_ready v n h zero there = h.ready
-only_ready v n h (suc file) there = absurd (omega (arith, h.one))
-
--- a file on which nothing was done
-pub bytes_now-new : (guest : ℕ) (first : First) → bytes_now (file_at (new_board guest (first ∷ [])) 0) ≡ first_bytes first
+-- a board on which nothing was done
+pub bytes_now-new : (guest : ℕ) (first : First) → bytes_now (file_at (new_board guest (firsts_of first)) 0) ≡ first_bytes first
 unfolding bytes_now bytes after_all
 bytes_now-new guest first = refl
+
+pub played-new : (first : First) → IsPlayed 0 (new_board 0 (firsts_of first))
+played-new first = record { guest = refl; plain = refl; many = refl; count = refl }
+
+pub size_of-new : (guest : ℕ) (first : First) → size_of (file_at (new_board guest (firsts_of first)) 0) ≡ first.size
+size_of-new guest first = ap length (bytes_now-new guest first) ∙ length-replicate first.size first.fill
+
+-- ---- the session
+
+bytes_eq-self : (bytes : List ℕ) → bytes_eq bytes bytes ≡ true
+bytes_eq-self bytes = (bytes_eq-Decides bytes bytes).1 refl
+
+-- the only name
+pub named-first : (name : List ℕ) → named (begun (new_state 0 (name ∷ []))) name ≡ Some 0
+unfolding named
+named-first name = rw (bytes_eq-self name) refl
+
+-- the only file, once it was looked up
+pub record IsFound (s : State) : Type 0 where
+  pub started : s.started ≡ true
+  pub known : is_known s 2 ≡ true
+  pub made : is_made s 2 ≡ true
+  pub may : may_open s ≡ true
+
+pub found-first : (name : List ℕ) → IsFound (looked_up (begun (new_state 0 (name ∷ []))) 0)
+unfolding is_known is_made may_open
+found-first name = record { started = refl; known = refl; made = refl; may = refl }
+
+-- a mark changes nothing for requests
+pub opened-marked : (at : FileRef) (s : State) (v : BoardView) (m : MapView) (n : ℕ) → IsOpened at (world s v m) → IsOpened at (world s (marked v n Req) m)
+opened-marked at s v m n h =
+    let k = h.servable in
+    record {
+      servable = record { plain = k.plain; enough = k.enough; ready = k.ready; few = k.few; free = k.free; pages = k.pages };
+      first = h.first;
+      opened = h.opened;
+    }

@@ -1,23 +1,25 @@
--- The requests of a client, and the replies to them.
-use Rattle.std.specs.Prelude.{◌≡◌, ℕ, ◌+◌, ◌-◌, ◌^◌, ◌==◌, List, Option, Some, None, if◌then◌else◌}
-use Rattle.fuse_wire.specs.declared.records.InHeader.{InHeader}
+-- What a client asks, and under which numbers.
+use Rattle.std.specs.Prelude.{ℕ, ◌+◌, ◌-◌, ◌^◌, ◌==◌, Bool, None, if◌then◌else◌}
+use Rattle.fuse_wire.specs.declared.inits.InitIn.{InitIn}
 use Rattle.fuse_wire.specs.declared.records.ReadIn.{ReadIn}
 use Rattle.fuse_wire.specs.declared.records.WriteIn.{WriteIn}
+use Rattle.fuse_codec.specs.declared.messages.Message.{Message}
+use Rattle.fuse_codec.specs.declared.messages.Request.{Request}
 
--- file i has node i + 2
-abbrev pub head_for : ℕ → ℕ → ℕ → ℕ → InHeader
-head_for len opcode unique file = record { len = len; opcode = opcode; unique = unique; nodeid = file + 2; uid = 0; gid = 0; pid = 0; total_extlen = 0 }
+-- a request of this number about a node, of no user, group or process
+abbrev pub message_for : ℕ → ℕ → Request → Message
+message_for unique node q = record { head = record { unique = unique; nodeid = node; uid = 0; gid = 0; pid = 0 }; body = q }
 
-abbrev pub read_for : ℕ → ℕ → ReadIn
-read_for off len = record { fh = 0; offset = off; size = len; read_flags = 0; lock_owner = 0; flags = 0 }
+-- Protocol 7.31. Bit 26 (FUSE_MAP_ALIGNMENT) asks for direct access.
+abbrev pub init_for : Bool → InitIn
+init_for ask_map = record { major = 7; minor = 31; max_readahead = 131072; flags = if ask_map then 67108864 else 0; flags2 = None }
 
-abbrev pub write_for : ℕ → ℕ → WriteIn
-write_for off size = record { fh = 0; offset = off; size = size; write_flags = 0; lock_owner = 0; flags = 0 }
+-- a read and a write under a handle, without flags or a lock
+abbrev pub read_for : ℕ → ℕ → ℕ → ReadIn
+read_for fh off len = record { fh = fh; offset = off; size = len; read_flags = 0; lock_owner = 0; flags = 0 }
 
--- the body of a reply that is a success for this request is found
-abbrev pub IsBody : List ℕ → Option (List ℕ) → Type 0
-IsBody body None = ⊥
-IsBody body (Some b) = b ≡ body
+abbrev pub write_for : ℕ → ℕ → ℕ → WriteIn
+write_for fh off size = record { fh = fh; offset = off; size = size; write_flags = 0; lock_owner = 0; flags = 0 }
 
 -- the number of the next request: from 1 on, and after the last u64 again from 1
 abbrev pub next_number : ℕ → ℕ

@@ -1,9 +1,14 @@
 -- What the calls of one guest make of one file, one after another from the n-th on, all by request.
-use Rattle.std.specs.Prelude.{◌≡◌, ℕ, ◌+◌, true, List, [], ◌∷◌, length, map}
+use Rattle.std.specs.Prelude.{◌≡◌, ℕ, ◌+◌, true, List, [], ◌∷◌, length, map, replicate}
 use Rattle.plain_file.specs.declared.operations.Entry.{Entry}
 use Rattle.plain_file.specs.declared.operations.Way.TheVariants.{Req}
 use Rattle.plain_file.specs.File.{after, answer, first_bytes}
-use Rattle.plain_file.specs.Board.{BoardView, IsReady, file_at}
+use Rattle.plain_file.specs.declared.operations.First.{First}
+use Rattle.plain_file.specs.Board.{BoardView, file_at}
+use Rattle.daemon_core.specs.State.{World}
+use Rattle.daemon_core.specs.Promises.{IsServable}
+use Rattle.daemon_core.specs.OpenFiles.{HasOpenFile}
+use Rattle.daxrun.specs.declared.client.FileRef.{FileRef}
 use Rattle.daxrun.specs.declared.scripts.Call.{Call}
 use Rattle.daxrun.specs.declared.scripts.FileLine.{FileLine}
 use Rattle.daxrun.specs.declared.transcripts.EntryLine.{EntryLine}
@@ -33,6 +38,9 @@ lines_from b n (c ∷ cs) = the_line b n c ∷ lines_from (after b (op_of c)) (n
 abbrev pub entry_line : Entry → EntryLine
 entry_line e = record { guest = e.guest; call = e.call; way = e.way }
 
+abbrev pub entry_lines : List Entry → List EntryLine
+entry_lines es = map entry_line es
+
 abbrev pub entries_of : List (List Call) → List EntryLine
 entries_of [] = []
 entries_of (cs ∷ gs) = map entry_line (entries_from 0 cs)
@@ -50,10 +58,19 @@ transcript_for f gs = record {
   guests = guests_of (first_bytes f.first) gs;
 }
 
--- a board of one file, the guest's own, on which n calls were done
+-- the first contents of a run's board: the script's file, and 15 empty ones
+abbrev pub firsts_of : First → List First
+firsts_of first = first ∷ replicate 15 (record { size = 0; fill = 0 })
+
+-- a board of 16 files, the guest's own, on whose first file n calls were done
 pub record IsPlayed (n : ℕ) (v : BoardView) : Type 0 where
   pub guest : v.guest ≡ 0
   pub plain : v.plain ≡ true
-  pub one : length v.files ≡ 1
-  pub ready : IsReady v 0
+  pub many : length v.files ≡ 16
   pub count : length (file_at v 0).history ≡ n
+
+-- file 0 is open under this handle, and any request can be served
+pub record IsOpened (at : FileRef) (w : World) : Type 0 where
+  pub servable : IsServable w
+  pub first : at.node ≡ 2
+  pub opened : HasOpenFile w.state at.node at.fh

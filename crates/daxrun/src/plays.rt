@@ -1,23 +1,27 @@
-ghost use Rattle.std.specs.Prelude.{◌≡◌, ◌<◌, ◌≤◌, ◌+◌, [], ◌∷◌, ◌++◌, length, map, true, IfOk, OnOk};
+ghost use Rattle.std.specs.Prelude.{◌≡◌, ◌<◌, ◌≤◌, ◌+◌, [], ◌∷◌, ◌++◌, length, true, IfOk, OnOk};
 ghost use Rattle.std.specs.List.{AllByRecursion};
 ghost use Rattle.plain_file.specs.File.{max_file, after, answer};
-ghost use Rattle.plain_file.specs.Board.{file_at, bytes_now, applied};
-ghost use Rattle.daemon_core.specs.Gives.{AreReady};
+ghost use Rattle.plain_file.specs.Board.{file_at, bytes_now, size_of, applied};
 ghost use Rattle.plain_file.specs.Plain.{new_board};
+ghost use Rattle.daemon_core.specs.State.{new_state};
+ghost use Rattle.daemon_core.specs.Promises.{IsServable, world};
 ghost use Rattle.daxrun.specs.Script.{IsCall, IsFirstForm, max_calls, op_of};
-ghost use Rattle.daxrun.specs.Play.{IsPlayed, the_entry, the_line, entries_from, lines_from, entry_line, entries_of, guests_of, transcript_for};
+ghost use Rattle.daxrun.specs.Play.{IsPlayed, IsOpened, firsts_of, the_entry, the_line, entries_from, lines_from, entry_lines, entries_of, guests_of, transcript_for};
 ghost use Rattle.daxrun.specs.Legal.{IsLegal};
 ghost use Rattle.daxrun.specs.Script.{is_script_name};
 ghost use Rattle.daxrun.specs.TranscriptReading.{IsPrintable, IsPrintableGuest, IsPrintableNumbered, IsPrintableAnswer};
 
-use crate::client::Client;
+use crate::client::{Client, FileRef};
 use crate::scripts::{Call, FileLine, Script};
 use crate::transcripts::{EntryLine, FilePart, GuestPart, Line, Numbered, Transcript};
-use plain_file::{Answer, Entry, FileBoard, First, List, Memory, PlainFiles, Way};
+use daemon_core::Daemon;
+use page_map::PageMap;
+use plain_file::{Answer, Entry, FileBoard, First, List, Memory, Name, PlainFiles, Way};
 use std::alloc::Global;
 
-/// Runs a script of one guest on one file, or of none, and tells what it did. The guest's calls go
-/// as requests to the daemon, in their order.
+/// Runs a script of one guest on one file, or of none, and tells what it did. The guest begins a
+/// session, opens the file, and makes its calls, all as requests to the daemon in their order. Nothing
+/// is sent after the last call.
 pub fn play(alloc: Global, script: &Script) -> Result<Transcript, Memory>
     requires { IsFirstForm script.now }
     ensures legal { IfOk result (IsLegal script.now) }
@@ -35,8 +39,10 @@ fn play_file(alloc: Global, file: &FileLine, guests: &[List<Call>]) -> Result<Tr
     ensures value { IfOk result (λ t. t ≡ transcript_for file.now guests.now) }
     ensures printable { IfOk result IsPrintable }
 {
+    let mut daemon = daemon(alloc, &file.name)?;
     let mut files = board(alloc, file.first)?;
-    let parts = play_guests(alloc, &mut files, guests)?;
+    let mut map = PageMap::new(alloc, 0)?;
+    let parts = play_guests(alloc, &file.name, guests, &mut daemon, &mut files, &mut map)?;
     let entries = entry_lines(alloc, files.history(0).as_slice())?;
     let mut told = List::new(alloc);
     told.push(FilePart {
@@ -52,19 +58,30 @@ fn play_file(alloc: Global, file: &FileLine, guests: &[List<Call>]) -> Result<Tr
     })
 }
 
+// The daemon of a file of this name, without a window.
+#[tactic(auto, using(daemon_core::proofs::Servable::one_distinct))]
+fn daemon(alloc: Global, name: &Name) -> Result<Daemon, Memory>
+    ensures { IfOk result (λ d. d ≡ new_state 0 (name.now ∷ [])) }
+{
+    let mut names = List::new(alloc);
+    names.push(name.clone()?)?;
+    Daemon::new(alloc, 0, &names)
+}
+
+// Files, as many as a daemon can have, of which the first has these contents and the others are empty.
 fn board(alloc: Global, first: First) -> Result<PlainFiles, Memory>
     requires { first.size ≤ max_file }
-    ensures value { IfOk result (λ b. b ≡ new_board 0 (first ∷ [])) }
+    ensures value { IfOk result (λ b. b ≡ new_board 0 (firsts_of first)) }
     ensures byte { first.fill < 256 }
 {
-    let mut firsts = List::new(alloc);
-    firsts.push(first)?;
-    PlainFiles::new(alloc, 0, &firsts)
+    let mut firsts = vec![in alloc; First { size: 0, fill: 0 }; 16]?;
+    firsts[0] = first;
+    PlainFiles::new(alloc, 0, &List::from_vec(firsts))
 }
 
 // What the entries of a history tell.
 fn entry_lines(alloc: Global, history: &[Entry]) -> Result<List<EntryLine>, Memory>
-    ensures { IfOk result (λ es. es ≡ map entry_line history.now) }
+    ensures { IfOk result (λ es. es ≡ entry_lines history.now) }
 {
     let mut lines = List::new(alloc);
     for entry in history {
@@ -80,49 +97,106 @@ fn entry_lines(alloc: Global, history: &[Entry]) -> Result<List<EntryLine>, Memo
 // The first guest, where there is one.
 fn play_guests(
     alloc: Global,
-    files: &mut PlainFiles,
+    name: &Name,
     guests: &[List<Call>],
+    daemon: &mut Daemon,
+    files: &mut PlainFiles,
+    map: &mut PageMap,
 ) -> Result<List<GuestPart>, Memory>
+    requires servable { IsServable (world daemon.old files.old map.old) }
+    requires new { daemon.old ≡ new_state 0 (name.now ∷ []) }
+    requires small { size_of (file_at files.old 0) ≤ max_file }
     requires at { IsPlayed 0 files.old }
     requires fresh { (file_at files.old 0).history ≡ [] }
     requires few { AllByRecursion (λ cs. length cs ≤ max_calls) guests.now }
     requires calls { AllByRecursion (λ cs. AllByRecursion (IsCall 1) cs) guests.now }
     ensures parts { IfOk result (λ gs. gs ≡ guests_of (bytes_now (file_at files.old 0)) guests.now) }
     ensures printable { IfOk result (AllByRecursion IsPrintableGuest) }
-    ensures history { OnOk result (map entry_line (file_at files.new 0).history ≡ entries_of guests.now) }
-    ensures one { OnOk result (length files.new.files ≡ 1) }
+    ensures history { OnOk result (entry_lines (file_at files.new 0).history ≡ entries_of guests.now) }
+    ensures many { OnOk result (length files.new.files ≡ 16) }
 {
     let mut parts = List::new(alloc);
     match guests {
         [] => {}
         [calls, ..] => {
-            let lines = play_calls(alloc, files, calls.as_slice())?;
+            let lines = play_guest(alloc, name, calls.as_slice(), daemon, files, map)?;
             parts.push(GuestPart { guest: 0, lines })?;
         }
     }
     Ok(parts)
 }
 
-// The calls of guest 0 on the only file.
-fn play_calls(
+// Guest 0 on the only file, from the beginning of its session on.
+fn play_guest(
     alloc: Global,
-    files: &mut PlainFiles,
+    name: &Name,
     calls: &[Call],
+    daemon: &mut Daemon,
+    files: &mut PlainFiles,
+    map: &mut PageMap,
 ) -> Result<List<Numbered>, Memory>
+    requires servable { IsServable (world daemon.old files.old map.old) }
+    requires new { daemon.old ≡ new_state 0 (name.now ∷ []) }
+    requires small { size_of (file_at files.old 0) ≤ max_file }
     requires at { IsPlayed 0 files.old }
     requires few { length calls.now ≤ max_calls }
     requires calls { AllByRecursion (IsCall 1) calls.now }
     ensures lines { IfOk result (λ ls. ls ≡ lines_from (bytes_now (file_at files.old 0)) 0 calls.now) }
     ensures printable { IfOk result (AllByRecursion IsPrintableNumbered) }
     ensures history { OnOk result ((file_at files.new 0).history ≡ (file_at files.old 0).history ++ entries_from 0 calls.now) }
-    ensures one { OnOk result (length files.new.files ≡ 1) }
+    ensures many { OnOk result (length files.new.files ≡ 16) }
 {
     let mut client = Client::new();
+    let at = open_file(alloc, &mut client, name, daemon, files, map)?;
+    play_calls(alloc, &mut client, at, calls, daemon, files, map)
+}
+
+// Begins the session, and opens the only file.
+fn open_file(
+    alloc: Global,
+    client: &mut Client,
+    name: &Name,
+    daemon: &mut Daemon,
+    files: &mut PlainFiles,
+    map: &mut PageMap,
+) -> Result<FileRef, Memory>
+    requires servable { IsServable (world daemon.old files.old map.old) }
+    requires new { daemon.old ≡ new_state 0 (name.now ∷ []) }
+    requires small { size_of (file_at files.old 0) ≤ max_file }
+    ensures at { IfOk result (λ at. IsOpened at (world daemon.new files.new map.new)) }
+    ensures files { OnOk result (files.new ≡ files.old) }
+{
+    client.init(alloc, false, daemon, files, map)?;
+    let entry = client.lookup(alloc, name, daemon, files, map)?;
+    let node = entry.nodeid;
+    let fh = client.open_file(alloc, node, daemon, files, map)?;
+    Ok(FileRef { node, fh })
+}
+
+// The calls of guest 0 on the open file.
+fn play_calls(
+    alloc: Global,
+    client: &mut Client,
+    at: FileRef,
+    calls: &[Call],
+    daemon: &mut Daemon,
+    files: &mut PlainFiles,
+    map: &mut PageMap,
+) -> Result<List<Numbered>, Memory>
+    requires opened { IsOpened at (world daemon.old files.old map.old) }
+    requires at { IsPlayed 0 files.old }
+    requires few { length calls.now ≤ max_calls }
+    requires calls { AllByRecursion (IsCall 1) calls.now }
+    ensures lines { IfOk result (λ ls. ls ≡ lines_from (bytes_now (file_at files.old 0)) 0 calls.now) }
+    ensures printable { IfOk result (AllByRecursion IsPrintableNumbered) }
+    ensures history { OnOk result ((file_at files.new 0).history ≡ (file_at files.old 0).history ++ entries_from 0 calls.now) }
+    ensures many { OnOk result (length files.new.files ≡ 16) }
+{
     let mut lines = List::new(alloc);
     let mut number = 0;
     let mut rest = calls;
     while let [call, after @ ..] = rest {
-        let line = play_call(alloc, &mut client, files, number, call)?;
+        let line = play_call(alloc, client, at, number, call, daemon, files, map)?;
         lines.push(line)?;
         number += 1;
         rest = after;
@@ -134,20 +208,25 @@ fn play_calls(
 fn play_call(
     alloc: Global,
     client: &mut Client,
-    files: &mut PlainFiles,
+    at: FileRef,
     number: u32,
     call: &Call,
+    daemon: &mut Daemon,
+    files: &mut PlainFiles,
+    map: &mut PageMap,
 ) -> Result<Numbered, Memory>
+    requires opened { IsOpened at (world daemon.old files.old map.old) }
     requires at { IsPlayed number files.old }
     requires call { IsCall 1 call.now }
     ensures line { IfOk result (λ n. n ≡ the_line (bytes_now (file_at files.old 0)) number call.now) }
     ensures printable { IfOk result IsPrintableNumbered }
+    ensures opened { OnOk result (IsOpened at (world daemon.new files.new map.new)) }
     ensures at { OnOk result (IsPlayed (number + 1) files.new) }
     ensures bytes { OnOk result (bytes_now (file_at files.new 0) ≡ after (bytes_now (file_at files.old 0)) (op_of call.now)) }
     ensures history { OnOk result ((file_at files.new 0).history ≡ (file_at files.old 0).history ++ the_entry number call.now ∷ []) }
 {
     files.mark(number, Way::Req);
-    let answer = ask(alloc, client, files, call)?;
+    let answer = ask(alloc, client, at, call, daemon, files, map)?;
     let place = files.own_last(0).unwrap();
     Ok(Numbered {
         call: number,
@@ -160,23 +239,27 @@ fn play_call(
 fn ask(
     alloc: Global,
     client: &mut Client,
-    files: &mut PlainFiles,
+    at: FileRef,
     call: &Call,
+    daemon: &mut Daemon,
+    files: &mut PlainFiles,
+    map: &mut PageMap,
 ) -> Result<Answer, Memory>
-    requires one { length files.old.files ≡ 1 }
-    requires ready { AreReady files.old }
+    requires opened { IsOpened at (world daemon.old files.old map.old) }
     requires call { IsCall 1 call.now }
     ensures answer { IfOk result (λ a. a ≡ answer (bytes_now (file_at files.old 0)) (op_of call.now)) }
     ensures printable { IfOk result IsPrintableAnswer }
+    ensures opened { OnOk result (IsOpened at (world daemon.new files.new map.new)) }
     ensures board { OnOk result (files.new ≡ applied files.old 0 (op_of call.now)) }
 {
     match call {
-        Call::Read { file, off, len } => {
-            let bytes = client.read(alloc, files, *file, *off, *len)?;
+        Call::Read { off, len, .. } => {
+            let bytes = client.read(alloc, at, *off, *len, daemon, files, map)?;
             Ok(Answer::Bytes(bytes))
         }
-        Call::Write { file, off, bytes } => {
-            let size = client.write(alloc, files, *file, *off, bytes.as_slice())?;
+        Call::Write { off, bytes, .. } => {
+            let bytes = bytes.as_slice();
+            let size = client.write(alloc, at, *off, bytes, daemon, files, map)?;
             Ok(Answer::Wrote(size as u64))
         }
     }

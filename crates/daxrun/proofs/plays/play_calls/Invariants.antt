@@ -2,14 +2,16 @@ use Rattle.std.proofs.Common.{◌≡◌, ◌+◌, ◌++◌, length}
 use Rattle.std.specs.List.{AllByRecursion}
 use Rattle.plain_file.specs.Board.{file_at, bytes_now}
 use Rattle.daxrun.specs.Script.{IsCall}
-use Rattle.daxrun.specs.Play.{IsPlayed, entries_from, lines_from}
+use Rattle.daemon_core.specs.Promises.{world}
+use Rattle.daxrun.specs.Play.{IsPlayed, IsOpened, entries_from, lines_from}
 use Rattle.daxrun.specs.TranscriptReading.{IsPrintableNumbered}
 use Rattle.daxrun.proofs.plays.play_calls.Given as goal
 
 -- what was told and what the rest gives is what all give
 abbrev pub invariant-loop-rest : goal.invariant-loop-rest
 invariant-loop-rest l = record {
-  at : IsPlayed l.number l.files;
+  opened : IsOpened l.at (world l.daemon l.files l.map);
+  played : IsPlayed l.number l.files;
   count : l.number + length l.rest ≡ length l.calls;
   calls : AllByRecursion (IsCall 1) l.rest;
   printable : AllByRecursion IsPrintableNumbered l.lines;

@@ -2,17 +2,17 @@ use Rattle.std.proofs.Common.{◌≡◌, ◌∙◌, ap, sym, subst, List, ℕ, [
 use Rattle.std.proofs.lemmas.Grind.{common_steps}
 use Rattle.std.specs.List.{AllByRecursion}
 use Rattle.plain_file.specs.File.{first_bytes}
-use Rattle.plain_file.specs.Board.{BoardView, file_at, bytes_now}
+use Rattle.plain_file.specs.Board.{BoardView, file_at, bytes_now, size_of}
 use Rattle.daxrun.specs.declared.transcripts.GuestPart.{GuestPart}
 use Rattle.daxrun.specs.declared.transcripts.Transcript.{Transcript}
 use Rattle.daxrun.specs.Play.{entry_line, entries_of, guests_of, transcript_for}
 use Rattle.daxrun.specs.TranscriptReading.{IsPrintable, IsPrintableGuest}
-use Rattle.daxrun.proofs.Playing.{bytes_now-new}
+use Rattle.daxrun.proofs.Playing.{bytes_now-new, size_of-new}
 use Rattle.daxrun.proofs.Printable.{transcript_printable}
 use Rattle.daxrun.proofs.plays.play_file.Goals as goal
 
 -- the transcript is that of the run
-value : (c : goal.After-drop-files-inside-2) → record { version = 1; ranges = 0; files = c.push.new.self; guests = c.in_ok-parts.parts } ≡ transcript_for c.args.file.now c.args.guests.now
+value : (c : goal.After-drop-daemon-inside-3) → record { version = 1; ranges = 0; files = c.push.new.self; guests = c.in_ok-parts.parts } ≡ transcript_for c.args.file.now c.args.guests.now
 unfolding transcript_for
 value c =
     let f = c.args.file.now in
@@ -36,3 +36,8 @@ returns-clause-printable c =
     let P : List GuestPart → Type 0 = λ x. AllByRecursion IsPrintableGuest x in
     let Q : Transcript → Type 0 = λ t. IsPrintable t in
     subst Q (sym (value c)) (transcript_printable f gs c.requires.name c.requires.size c.board.ensures.byte c.requires.few (subst P guests c.in_ok-parts.ensures.printable))
+
+pub play_guests-requires-clause-small : goal.play_guests-requires-clause-small
+play_guests-requires-clause-small c =
+    let f = c.args.file.now in
+    omega (arith, ap (λ (v : BoardView). size_of (file_at v 0)) c.in_ok-files.ensures.value, size_of-new 0 f.first, c.requires.size)
