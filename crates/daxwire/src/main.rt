@@ -39,6 +39,8 @@ mod rings;
 #[cfg(test)]
 mod run_tests;
 mod runs;
+#[cfg(test)]
+mod serve_tests;
 mod serves;
 mod shows;
 
