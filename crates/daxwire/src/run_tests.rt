@@ -60,7 +60,8 @@ pub fn calls(alloc: Global, fails: u64) -> Result<List<u64>, Memory> {
     Ok(calls)
 }
 
-fn words_of(alloc: Global, words: &[&[u8]]) -> Result<List<Word>, Memory> {
+/// A command line's words.
+pub fn words_of(alloc: Global, words: &[&[u8]]) -> Result<List<Word>, Memory> {
     let mut list = List::new(alloc);
     for word in words {
         list.push(Blob::copy_of(alloc, word)?)?;

@@ -1,7 +1,11 @@
-use crate::run_tests::{EMPTY, Ends, HEADER, INIT, SURE, bytes_of, ran, stream_of};
-use dax_script::Status;
+ghost use Rattle.std.specs.Prelude.{None};
+
+use crate::run_tests::{EMPTY, Ends, HEADER, INIT, SURE, bytes_of, ran, stream_of, words_of};
+use crate::runs::run_wire;
+use dax_script::{Failed, Sink, Source, Status};
 use plain_file::{Blob, List};
 use std::alloc::Global;
+use std::cell::Cell;
 use std::process::Abort;
 use std::test::Fail;
 
@@ -591,5 +595,85 @@ fn a_sink_fails_at_each_call(rt: HostRuntime) -> Result<(), Fail> {
         assert_eq!(rt; status, Status::Ok);
         assert_eq!(rt; taken.as_slice(), answers.as_slice());
     }
+    Ok(())
+}
+
+// A source that hands out one piece after another, the next one only once the answer to the one
+// before was taken; else it fails.
+#[derive(Drop)]
+struct Asking<'a> {
+    pieces: &'a [&'a [u8]],
+    asked: u64,
+    answered: &'a Cell<u64>,
+    faults: u64,
+}
+
+impl Source for Asking<'_> {
+    ghost left = { λ s. None };
+
+    ghost faults = { λ s. s.faults };
+
+    fn read(&mut self, buf: &mut [u8]) -> Result<usize, Failed> {
+        if self.answered.get() < self.asked {
+            self.faults = self.faults.saturating_add(1);
+            return Err(Failed);
+        }
+        let Some((piece, rest)) = self.pieces.split_first() else {
+            return Ok(0);
+        };
+        self.pieces = rest;
+        self.asked = self.asked.saturating_add(1);
+        let n = piece.len().min(buf.len());
+        buf[..n].copy_from_slice(piece.split_at(n).0);
+        Ok(n)
+    }
+}
+
+// A sink that counts the pieces that it took.
+#[derive(Drop)]
+struct Counting<'a> {
+    answered: &'a Cell<u64>,
+}
+
+impl Sink for Counting<'_> {
+    ghost taken = { λ s. None };
+
+    ghost faults = { λ s. 0 };
+
+    fn write(&mut self, bytes: &[u8]) -> Result<usize, Failed> {
+        self.answered.set(self.answered.get().saturating_add(1));
+        Ok(bytes.len())
+    }
+}
+
+// Each answer is written before the next frame is read.
+#[test]
+fn a_peer_that_waits(rt: HostRuntime) -> Result<(), Fail> {
+    let alloc = rt.alloc();
+    let first = stream_of(alloc, &[HEADER, INIT])?;
+    let load = bytes_of(alloc, "02 0000000000000000 04000000")?;
+    let store = bytes_of(alloc, "03 0000000000000000 01000000 cc")?;
+    let pieces = [
+        first.as_slice(),
+        load.as_slice(),
+        store.as_slice(),
+        load.as_slice(),
+        load.as_slice(),
+    ];
+    let answered = Cell::new(0);
+    let words = words_of(alloc, &[b"serve".as_slice()])?;
+    let mut source = Asking {
+        pieces: &pieces,
+        asked: 0,
+        answered: &answered,
+        faults: 0,
+    };
+    let mut sink = Counting {
+        answered: &answered,
+    };
+    let status = run_wire(alloc, words.as_slice(), &mut source, &mut sink);
+    assert_eq!(rt; status, Status::Ok);
+    assert_eq!(rt; source.faults, 0);
+    assert_eq!(rt; answered.get(), 5);
     Ok(())
 }
