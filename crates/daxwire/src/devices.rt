@@ -57,9 +57,9 @@ impl Device {
         ensures answer { IfOk result (IsAnswer readable.now) }
         ensures fits { IfOk result (λ b. length b ≤ room) }
     {
-        let reply =
-            self.daemon
-                .serve_chain(alloc, readable, room, &mut self.files, &mut self.map)?;
+        let reply = self
+            .daemon
+            .serve_chain(alloc, readable, room, &mut self.files, &mut self.map)?;
         Ok(reply)
     }
 

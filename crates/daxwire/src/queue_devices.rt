@@ -47,12 +47,7 @@ impl Model for QueueDevice {
 impl QueueDevice {
     /// The device of these parts. The memory is as long as the one that the ring was made with, and
     /// `available` is the address of its available ring.
-    pub fn new(
-        device: Device,
-        memory: GuestMem,
-        ring: Ring,
-        available: u64,
-    ) -> QueueDevice
+    pub fn new(device: Device, memory: GuestMem, ring: Ring, available: u64) -> QueueDevice
         requires layout { IsLayout ring.layout }
         requires memory { length memory ≡ ring.layout.memory }
         requires available { available ≡ ring.layout.available }

@@ -461,7 +461,6 @@ fn refuses_words_and_reads_nothing(rt: HostRuntime) -> Result<(), Fail> {
         [b"shows".as_slice()].as_slice(),
         [b"show".as_slice(), b"x".as_slice()].as_slice(),
         [b"x".as_slice(), b"show".as_slice()].as_slice(),
-        [b"ring".as_slice()].as_slice(),
         [b"audit".as_slice()].as_slice(),
         [b"\xff\xfe".as_slice()].as_slice(),
     ] {

@@ -101,7 +101,12 @@ impl Device {
                 self.put_chain(alloc, readable, room as u32, out)
             }
             Front::Load { moffset, len } => self.put_load(alloc, moffset, len, out),
-            Front::Store { moffset, .. } => self.put_store(alloc, moffset, bytes.split_at(13).1, out),
+            Front::Store { moffset, .. } => self.put_store(
+                alloc,
+                moffset,
+                bytes.split_at(13).1,
+                out,
+            ),
             Front::Bad(_) | Front::Cut | Front::Nothing => Ok(()),
         }
     }

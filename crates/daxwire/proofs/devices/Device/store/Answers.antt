@@ -7,4 +7,3 @@ store_window-requires-clause-names c = names_of_board (world c.self.inside.daemo
 
 pub invariant_of-self : goal.invariant_of-self
 invariant_of-self c = serving_after_store c.self.inside.daemon c.self.inside.files c.store_window.new.files c.self.inside.map c.args.moffset c.args.bytes.now c.store_window.result c.self.invariant c.store_window.ensures
-
