@@ -1,0 +1,2 @@
+pub mod StepKeeps
+pub mod Judging

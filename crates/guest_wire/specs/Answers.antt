@@ -1,0 +1,68 @@
+-- What bytes say to a request, and what a driver answers by them.
+use Rattle.std.specs.Prelude.{◌≡◌, ℕ, ◌==◌, Bool, true, false, nat_lt, List, length, Option, Some, None, Result, Ok, Err, if◌then◌else◌}
+use Rattle.fuse_wire.specs.declared.opens.OpenOut.{OpenOut}
+use Rattle.fuse_codec.specs.Grammar.{kind_of}
+use Rattle.fuse_codec.specs.Opcodes.{reply_form}
+use Rattle.fuse_codec.specs.ReplyReading.{reply_of}
+use Rattle.fuse_codec.specs.declared.errors.BadReply.{BadReply}
+use Rattle.fuse_codec.specs.declared.messages.Message.{Message}
+use Rattle.fuse_codec.specs.declared.replies.Reply.{Reply}
+use Rattle.fuse_codec.specs.declared.replies.Reply.TheVariants as replies
+use Rattle.daemon_core.specs.Steps.{wanted_room}
+use Rattle.guest_wire.specs.declared.wires.WireRefusal.{WireRefusal}
+use Rattle.guest_wire.specs.declared.wires.WireRefusal.TheVariants as refusals
+use Rattle.guest_wire.specs.Wires.{WireView, Boards, Sent, world_at, Rose, IsStep, IsStepOrNot}
+use Rattle.guest_wire.specs.Requests.{sent}
+
+-- the reply, where it is to this number
+unfoldable pub numbered : ℕ → Result (ℕ × Reply) BadReply → Option Reply
+numbered unique (Ok (n, reply)) = if n == unique then Some reply else None
+numbered unique (Err bad) = None
+
+-- The reply to a message that bytes are: within its room, decoded by its operation, with its number. None for all other bytes.
+unfoldable pub heard : Message → List ℕ → Option Reply
+heard m bytes =
+    if nat_lt (wanted_room m.body) (length bytes) then None
+    else numbered m.head.unique (reply_of (reply_form (kind_of m.body)) bytes)
+
+-- What is answered by bytes that were received: a value where they are a success that says it, an error's number, or the bytes where they are no reply to the message.
+abbrev pub Judges : {V : Type 0} → (V → Reply → Type 0) → Option Reply → List ℕ → Result V WireRefusal → Type 0
+Judges says reply bytes (Ok v) = (r : Reply) × (reply ≡ Some r) × says v r
+Judges says reply bytes (Err (refusals.Errno number)) = reply ≡ Some (replies.Error number)
+Judges says reply bytes (Err (refusals.BadReply bad)) = (reply ≡ None) × (bad ≡ bytes)
+Judges says reply bytes (Err refusals.WireFault) = ⊥
+Judges says reply bytes (Err refusals.Memory) = ⊥
+
+-- These bytes were received: they stand in what the wire gives for the message. Over an honest wire they are the device's step.
+pub record Receives {S : Type 0} (wire : S → WireView) (gives : S → Boards → Sent → List ℕ → S → Boards → Type 0) (before : S) (old : Boards) (m : Message) (bytes : List ℕ) (after : S) (new : Boards) : Type 0 where
+  pub given : gives before old (sent m) bytes after new
+  pub step : (wire before).honest ≡ true → IsStep (world_at (wire before) old) (sent m) bytes (world_at (wire after) new)
+
+-- What a call answers that sends one message: by the bytes that were received, but for a fault of the wire and want of memory.
+abbrev pub Answers : {S V : Type 0} → (S → WireView) → (S → Boards → Sent → List ℕ → S → Boards → Type 0) → (V → Reply → Type 0) → S → Boards → Message → Result V WireRefusal → S → Boards → Type 0
+Answers wire gives says before old m (Err refusals.WireFault) after new = Rose (wire before).faults (wire after).faults × ((wire before).honest ≡ false)
+Answers wire gives says before old m (Err refusals.Memory) after new = (wire before).honest ≡ true → IsStepOrNot (world_at (wire before) old) (sent m) (world_at (wire after) new)
+Answers wire gives says before old m result after new = (bytes : List ℕ) × Receives wire gives before old m bytes after new × Judges says (heard m bytes) bytes result
+
+-- a handle was opened
+abbrev pub SaysOpened : ℕ → Reply → Type 0
+SaysOpened fh reply = (opened : OpenOut) × (reply ≡ replies.Opened opened) × (fh ≡ opened.fh)
+
+-- so many bytes were written
+abbrev pub SaysWrote : ℕ → Reply → Type 0
+SaysWrote size reply = reply ≡ replies.Wrote (record { size = size })
+
+-- the reply itself
+abbrev pub SaysItself : Reply → Reply → Type 0
+SaysItself v reply = v ≡ reply
+
+-- what is made of bytes that are this reply, but for want of memory
+abbrev pub JudgesOrNot : Option Reply → List ℕ → Result Reply WireRefusal → Type 0
+JudgesOrNot reply bytes (Err refusals.Memory) = Unit {0}
+JudgesOrNot reply bytes result = Judges SaysItself reply bytes result
+
+-- a success, or an error's number
+abbrev pub IsSplit : Reply → Result Reply WireRefusal → Type 0
+IsSplit reply (Ok r) = r ≡ reply
+IsSplit reply (Err (refusals.Errno number)) = reply ≡ replies.Error number
+IsSplit reply (Err e) = ⊥

@@ -1,0 +1,170 @@
+ghost use Rattle.std.specs.Prelude.{◌≡◌, ◌<◌, ◌≤◌, ◌^◌, ℕ, length, true, Result, IsSome, IfOk, Some};
+ghost use Rattle.fuse_codec.specs.Grammar.{max_part, kind_of, is_bounded};
+ghost use Rattle.fuse_codec.specs.Opcodes.{reply_form};
+ghost use Rattle.fuse_codec.specs.Replies.{answered, form_of, HasForm};
+ghost use Rattle.fuse_codec.specs.ReplyReading.{reply_of, GivesReply};
+ghost use Rattle.fuse_codec.specs.declared.errors.BadReply.{BadReply};
+ghost use Rattle.fuse_codec.specs.declared.opcodes.ReplyForm.{ReplyForm};
+ghost use Rattle.fuse_codec.specs.declared.replies.Reply.{Reply};
+ghost use Rattle.daemon_core.specs.Steps.{wanted_room};
+ghost use Rattle.guest_wire.specs.Wires.{boards, KeepsWire};
+ghost use Rattle.guest_wire.specs.Keeps.{KeepsBoards};
+ghost use Rattle.guest_wire.specs.Requests.{next_number, message, CanAsk};
+ghost use Rattle.guest_wire.specs.Answers.{Answers, SaysItself, JudgesOrNot, IsSplit, heard, numbered};
+
+use crate::wires::{Wire, WireError, WireRefusal};
+use fuse_codec::{BadReply, Head, Message, Opcode, Reply, Request, decode_reply, encode_request};
+use page_map::MapBoard;
+use plain_file::{Blob, FileBoard};
+use std::alloc::Global;
+
+/// An open file: a node and the number of a handle of it.
+#[derive(Clone, Copy, Debug, PartialEq, Eq)]
+pub struct FileRef {
+    /// The file's node.
+    pub node: u64,
+    /// The handle's number.
+    pub fh: u64,
+}
+
+/// The client.
+#[derive(Debug, Drop)]
+pub struct Driver<W> {
+    /// What carries the requests.
+    pub wire: W,
+    /// The number of the last request, 0 before the first.
+    pub unique: u64,
+}
+
+impl<W> Driver<W> {
+    // The next request's number.
+    pub(crate) fn next_unique(&mut self) -> u64
+        ensures value { result ≡ next_number self.old.unique }
+        ensures kept { self.new ≡ record self.old { unique = result } }
+    {
+        self.unique = if self.unique == u64::MAX {
+            1
+        } else {
+            self.unique + 1
+        };
+        self.unique
+    }
+
+    // Sends one message, and judges the bytes that were received for it.
+    pub(crate) fn ask<F: FileBoard, M: MapBoard>(
+        &mut self,
+        alloc: Global,
+        unique: u64,
+        node: u64,
+        body: Request,
+        files: &mut F,
+        map: &mut M,
+    ) -> Result<Reply, WireRefusal>
+    where
+        W: Wire<F, M>,
+        requires bounded { is_bounded body ≡ true }
+        requires answered { IsSome (answered (reply_form (kind_of body))) }
+        requires room { wanted_room body ≤ max_part }
+        requires boards { CanAsk (W.wire self.old.wire) (boards (F.board files.old) (M.map map.old)) body }
+        ensures answer { Answers W.wire W.gives SaysItself self.old.wire (boards (F.board files.old) (M.map map.old)) (message unique node body) result self.new.wire (boards (F.board files.new) (M.map map.new)) }
+        ensures form { IfOk result (λ reply. form_of reply ≡ Some (reply_form (kind_of body))) }
+        ensures number { self.new.unique ≡ self.old.unique }
+        ensures wire { KeepsWire (W.wire self.old.wire) (W.wire self.new.wire) }
+        ensures boards { KeepsBoards (boards (F.board files.old) (M.map map.old)) (boards (F.board files.new) (M.map map.new)) }
+    {
+        let message = message_of(unique, node, body);
+        let request = encode_request(alloc, &message)?;
+        let room = wanted_room(&message.body);
+        match self
+            .wire
+            .submit(alloc, request.as_slice(), room, files, map)
+        {
+            Ok(bytes) => hear(alloc, &message, room, bytes),
+            Err(WireError::Fault) => Err(WireRefusal::WireFault),
+            Err(WireError::Memory) => Err(WireRefusal::Memory),
+        }
+    }
+}
+
+// A request from nobody in particular.
+fn message_of(unique: u64, node: u64, body: Request) -> Message
+    ensures { result ≡ message unique node body }
+{
+    let head = Head {
+        unique,
+        nodeid: node,
+        uid: 0,
+        gid: 0,
+        pid: 0,
+    };
+    Message { head, body }
+}
+
+// The room that the reply to a request wants.
+fn wanted_room(body: &Request) -> u32
+    requires room { wanted_room body.now ≤ max_part }
+    ensures { result ≡ wanted_room body.now }
+{
+    body.room().unwrap_or(16) as u32
+}
+
+// What bytes say to a message: a success, or why they are none.
+#[tactic(auto, unfolding(crate::specs::Answers::heard))]
+fn hear(alloc: Global, message: &Message, room: u32, bytes: Blob) -> Result<Reply, WireRefusal>
+    requires answered { IsSome (answered (reply_form (kind_of message.now.body))) }
+    requires room { room ≡ wanted_room message.now.body }
+    ensures heard { JudgesOrNot (heard message.now bytes) bytes result }
+    ensures form { IfOk result (λ reply. form_of reply ≡ Some (reply_form (kind_of message.now.body))) }
+{
+    if bytes.len() > room as usize {
+        return Err(WireRefusal::BadReply { bytes });
+    }
+    let decoded = decode(alloc, message.body.opcode(), bytes.as_slice());
+    judge(message.head.unique, decoded, bytes)
+}
+
+// The reply to an operation that bytes are.
+fn decode(alloc: Global, opcode: Opcode, bytes: &[u8]) -> Result<(u64, Reply), BadReply>
+    requires answered { IsSome (answered (reply_form opcode)) }
+    requires small { length bytes.now < 2 ^ 32 }
+    ensures read { GivesReply result (reply_of (reply_form opcode) bytes.now) }
+    ensures form { IfOk result (λ answer. HasForm (reply_form opcode) answer.1) }
+{
+    decode_reply(alloc, opcode.number(), bytes)
+}
+
+// Takes a reply to the request of this number, which the bytes were decoded to.
+#[tactic(auto, unfolding(crate::specs::Answers::numbered))]
+fn judge(
+    unique: u64,
+    decoded: Result<(u64, Reply), BadReply>,
+    bytes: Blob,
+) -> Result<Reply, WireRefusal>
+    ensures judged { (read : Result (ℕ × Reply) BadReply) → GivesReply decoded read → JudgesOrNot (numbered unique read) bytes result }
+    ensures form { (form : ReplyForm) → IfOk decoded (λ answer. HasForm form answer.1) → IfOk result (λ reply. form_of reply ≡ Some form) }
+{
+    match decoded {
+        Ok((number, reply)) => {
+            if number != unique {
+                return Err(WireRefusal::BadReply { bytes });
+            }
+            split(reply)
+        }
+        Err(BadReply::Memory) => Err(WireRefusal::Memory),
+        Err(
+            BadReply::Short | BadReply::Length { .. } | BadReply::ErrorCode { .. } | BadReply::Body,
+        ) => Err(WireRefusal::BadReply { bytes }),
+    }
+}
+
+// A success, or the error's number.
+#[tactic(auto, unfolding(fuse_codec::specs::Replies::form_of))]
+fn split(reply: Reply) -> Result<Reply, WireRefusal>
+    ensures value { IsSplit reply result }
+    ensures success { IfOk result (λ r. IsSome (form_of r)) }
+{
+    match reply {
+        Reply::Error { number } => Err(WireRefusal::Errno { number }),
+        reply => Ok(reply),
+    }
+}
