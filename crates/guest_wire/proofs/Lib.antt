@@ -1,2 +1,3 @@
 pub mod StepKeeps
 pub mod Judging
+pub mod Serving

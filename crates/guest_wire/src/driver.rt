@@ -37,6 +37,13 @@ pub struct Driver<W> {
 }
 
 impl<W> Driver<W> {
+    /// A client that sent nothing yet.
+    pub fn new(wire: W) -> Driver<W>
+        ensures { result ≡ record { wire = wire; unique = 0 } }
+    {
+        Driver { wire, unique: 0 }
+    }
+
     // The next request's number.
     pub(crate) fn next_unique(&mut self) -> u64
         ensures value { result ≡ next_number self.old.unique }

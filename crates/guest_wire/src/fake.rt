@@ -1,6 +1,7 @@
-ghost use Rattle.std.specs.Prelude.{◌≡◌, ◌∷◌, false};
+ghost use Rattle.std.specs.Prelude.{◌≡◌, ◌∷◌, IfOk};
 ghost use Rattle.guest_wire.specs.declared.fake.WireStep.TheVariants as steps;
-ghost use Rattle.guest_wire.specs.Wires.{boards};
+ghost use Rattle.guest_wire.specs.Wires.{boards, HasCause, KeepsWire};
+ghost use Rattle.guest_wire.specs.Keeps.{KeepsBoards};
 ghost use Rattle.guest_wire.specs.Fakes.{fake_wire, taken};
 
 use crate::wires::{Wire, WireError};
@@ -18,7 +19,8 @@ pub enum WireStep {
     Fail,
 }
 
-/// A wire that answers what it was told to, whatever is submitted.
+/// A wire that answers what it was told to, whatever is submitted. It isn't honest, and never changes
+/// a board. Its count of faults begins with 0 and stays at the last u64.
 #[derive(Debug, Drop)]
 pub struct FakeWire {
     // the steps that are left, the next one last
@@ -36,6 +38,8 @@ impl Model for FakeWire {
 }
 
 impl FakeWire {
+    /// A wire that takes one of these steps at each submit, in their order. Where none is left it
+    /// fails.
     pub fn new(steps: List<WireStep>) -> FakeWire
         ensures { result ≡ record { left = steps; faults = 0 } }
     {
@@ -50,15 +54,27 @@ impl<F: FileBoard, M: MapBoard> Wire<F, M> for FakeWire {
 
     ghost gives = { λ before old sent bytes after new. (before.left ≡ steps.Bytes bytes ∷ after.left) × (after.faults ≡ before.faults) × (new ≡ old) };
 
+    /// Takes the next step: answers its bytes, or fails.
     #[tactic(auto, unfolding(crate::specs::Fakes::taken))]
     fn submit(
         &mut self,
-        _alloc: Global,
-        _readable: &[u8],
-        _room: u32,
-        _files: &mut F,
-        _map: &mut M,
-    ) -> Result<Blob, WireError> {
+        alloc: Global,
+        readable: &[u8],
+        room: u32,
+        files: &mut F,
+        map: &mut M,
+    ) -> Result<Blob, WireError>
+        ensures step { (result, self.new) ≡ taken self.old self.old.left }
+        ensures files { F.board files.new ≡ F.board files.old }
+        ensures map { M.map map.new ≡ M.map map.old }
+        ensures given { IfOk result (λ bytes. (self.old.left ≡ steps.Bytes bytes ∷ self.new.left)
+            × (self.new.faults ≡ self.old.faults)
+            × (boards (F.board files.new) (M.map map.new) ≡ boards (F.board files.old) (M.map map.old))) }
+        ensures fault { HasCause self.old.faults result self.new.faults }
+        ensures wire { KeepsWire (fake_wire self.old) (fake_wire self.new) }
+        ensures boards { KeepsBoards (boards (F.board files.old) (M.map map.old))
+            (boards (F.board files.new) (M.map map.new)) }
+    {
         match self.steps.pop() {
             Some(WireStep::Bytes(bytes)) => Ok(bytes),
             Some(WireStep::Fail) | None => {

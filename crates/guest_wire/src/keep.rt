@@ -1,4 +1,8 @@
-ghost use Rattle.std.specs.Prelude.{◌≡◌, [], ◌∷◌, ◌++◌};
+ghost use Rattle.std.specs.Prelude.{◌≡◌, ◌≤◌, [], ◌∷◌, ◌++◌, length, true, IfOk};
+ghost use Rattle.fuse_codec.specs.Grammar.{max_part};
+ghost use Rattle.guest_wire.specs.Wires.{boards, sending, world_at, CanSubmit, Honest, HasCause, KeepsWire};
+ghost use Rattle.guest_wire.specs.Keeps.{KeepsBoards};
+ghost use Rattle.guest_wire.specs.Kept.{KeepsRequest};
 
 use crate::wires::{Wire, WireError};
 use page_map::MapBoard;
@@ -6,7 +10,8 @@ use plain_file::{Blob, FileBoard, List};
 use std::alloc::Global;
 use std::marker::Model;
 
-/// A wire that passes each request on to another wire, and keeps it.
+/// A wire that passes each request on to another wire, and keeps it. It is honest where the other one
+/// is, stands over the same, and has its count of faults and its daemon.
 #[derive(Debug, Drop)]
 pub struct KeepWire<W> {
     inner: W,
@@ -22,6 +27,7 @@ impl<W> Model for KeepWire<W> {
 }
 
 impl<W> KeepWire<W> {
+    /// A wire that passes requests on to `inner`, and that kept none yet.
     pub fn new(alloc: Global, inner: W) -> KeepWire<W>
         ensures { result ≡ record { inner = inner; requests = [] } }
     {
@@ -31,6 +37,7 @@ impl<W> KeepWire<W> {
         }
     }
 
+    /// The readable parts that were submitted, in their order.
     pub fn requests(&self) -> &List<Blob>
         ensures { result.now ≡ self.now.requests }
     {
@@ -43,6 +50,8 @@ impl<F: FileBoard, M: MapBoard, W: Wire<F, M>> Wire<F, M> for KeepWire<W> {
 
     ghost gives = { λ before old sent bytes after new. W.gives before.inner old sent bytes after.inner new × (after.requests ≡ before.requests ++ sent.bytes ∷ []) };
 
+    /// Keeps the request, then submits it to the other wire. `Memory` comes also where there is no
+    /// room to keep it; nothing was submitted then.
     fn submit(
         &mut self,
         alloc: Global,
@@ -50,7 +59,27 @@ impl<F: FileBoard, M: MapBoard, W: Wire<F, M>> Wire<F, M> for KeepWire<W> {
         room: u32,
         files: &mut F,
         map: &mut M,
-    ) -> Result<Blob, WireError> {
+    ) -> Result<Blob, WireError>
+        requires readable { length readable.now ≤ max_part }
+        requires room { room ≤ max_part }
+        requires boards { CanSubmit (W.wire self.old.inner)
+            (boards (F.board files.old) (M.map map.old)) readable.now }
+        ensures kept { KeepsRequest self.old.requests readable.now result self.new.requests }
+        ensures given { IfOk result (λ bytes.
+            W.gives self.old.inner (boards (F.board files.old) (M.map map.old))
+            (sending readable.now room) bytes
+            self.new.inner (boards (F.board files.new) (M.map map.new))
+            × (self.new.requests ≡ self.old.requests ++ readable.now ∷ [])) }
+        ensures honest { (W.wire self.old.inner).honest ≡ true →
+            Honest (world_at (W.wire self.old.inner) (boards (F.board files.old) (M.map map.old)))
+            (sending readable.now room) result
+            (world_at (W.wire self.new.inner) (boards (F.board files.new) (M.map map.new))) }
+        ensures fault { HasCause (W.wire self.old.inner).faults result
+            (W.wire self.new.inner).faults }
+        ensures wire { KeepsWire (W.wire self.old.inner) (W.wire self.new.inner) }
+        ensures boards { KeepsBoards (boards (F.board files.old) (M.map map.old))
+            (boards (F.board files.new) (M.map map.new)) }
+    {
         let copy = Blob::copy_of(alloc, readable)?;
         self.requests.push(copy)?;
         self.inner.submit(alloc, readable, room, files, map)

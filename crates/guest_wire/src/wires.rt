@@ -64,11 +64,31 @@ impl From<Memory> for WireRefusal {
 }
 
 /// What carries a request from a guest to a device, and the answer back.
+///
+/// `wire` is what a wire means: whether it is honest, the table that it stands over if any, how often
+/// it failed, and what the daemon of an honest wire holds. `gives` is a relation between the wire and
+/// the boards before a submit, what was submitted, the bytes that were answered, and the wire and
+/// the boards after it. Where a contract above speaks of bytes received, it means bytes that stand
+/// in `gives` for a request that was sent in that call.
 pub trait Wire<F: FileBoard, M: MapBoard> {
     ghost wire: { Self → WireView };
 
     ghost gives: { Self → Boards → Sent → List ℕ → Self → Boards → Type 0 };
 
+    /// Submits a request: `readable` are its bytes, and `room` says how many bytes may be answered;
+    /// both parts have at most `MAX_PART` bytes. Where the wire is honest, the boards serve the
+    /// request, as `Daemon::serve_chain` asks for.
+    ///
+    /// The answer stands in what the wire gives. Over an honest wire the bytes, the daemon and the
+    /// boards afterwards are the device's step. Whatever is answered, the wire is honest or not as
+    /// before and stands over the same, and the boards keep their marks, their files with their
+    /// first contents and bars, their pages, and what they have in hand; histories only grow.
+    ///
+    /// # Errors
+    ///
+    /// `Fault` comes only where the wire's count of faults rose or stands at its last value, and
+    /// never over an honest wire. After `Memory` the request may have been carried out; over an
+    /// honest wire as the device's step, or not at all.
     fn submit(
         &mut self,
         alloc: Global,
@@ -79,10 +99,18 @@ pub trait Wire<F: FileBoard, M: MapBoard> {
     ) -> Result<Blob, WireError>
         requires readable { length readable.now ≤ max_part }
         requires room { room ≤ max_part }
-        requires boards { CanSubmit (wire self.old) (boards (F.board files.old) (M.map map.old)) readable.now }
-        ensures given { IfOk result (λ bytes. gives self.old (boards (F.board files.old) (M.map map.old)) (sending readable.now room) bytes self.new (boards (F.board files.new) (M.map map.new))) }
-        ensures honest { (wire self.old).honest ≡ true → Honest (world_at (wire self.old) (boards (F.board files.old) (M.map map.old))) (sending readable.now room) result (world_at (wire self.new) (boards (F.board files.new) (M.map map.new))) }
+        requires boards { CanSubmit (wire self.old) (boards (F.board files.old) (M.map map.old))
+            readable.now }
+        ensures given { IfOk result (λ bytes.
+            gives self.old (boards (F.board files.old) (M.map map.old))
+            (sending readable.now room) bytes
+            self.new (boards (F.board files.new) (M.map map.new))) }
+        ensures honest { (wire self.old).honest ≡ true →
+            Honest (world_at (wire self.old) (boards (F.board files.old) (M.map map.old)))
+            (sending readable.now room) result
+            (world_at (wire self.new) (boards (F.board files.new) (M.map map.new))) }
         ensures fault { HasCause (wire self.old).faults result (wire self.new).faults }
         ensures wire { KeepsWire (wire self.old) (wire self.new) }
-        ensures boards { KeepsBoards (boards (F.board files.old) (M.map map.old)) (boards (F.board files.new) (M.map map.new)) };
+        ensures boards { KeepsBoards (boards (F.board files.old) (M.map map.old))
+            (boards (F.board files.new) (M.map map.new)) };
 }
