@@ -27,7 +27,24 @@ pub struct FileRef {
     pub fh: u64,
 }
 
-/// The client.
+/// The client. Each call sends one request with the next number, from 1 on and after the last u64 from 1
+/// again, which is used up whatever is answered. What a call answers is told by the bytes received
+/// in it, which are those that the wire gives for this request.
+///
+/// Where the wire is honest, the boards serve the request, as `Daemon::serve` asks for: each made file
+/// is on the board, ready, and the map has as many pages as the daemon. Over an honest wire the bytes,
+/// the daemon and the boards afterwards are the device's step at the request. Whatever is answered,
+/// boards keep what [`Wire::submit`] keeps.
+///
+/// # Errors
+///
+/// A call answers a value exactly where the bytes received are a success of the request's form with its
+/// number, within the room that the request's reply wants. Of [`WireRefusal`], `Errno` comes exactly
+/// where they are an error's reply with its number, within the room; `BadReply` exactly where they
+/// don't decode, have another number, or are more than the room. `WireFault` comes only where the
+/// wire's count of faults rose or stands at its last value, and never over an honest wire. `Memory` comes
+/// where an allocation was refused: the request may have been carried out, over an honest wire as the
+/// device's step or not at all.
 #[derive(Debug, Drop)]
 pub struct Driver<W> {
     /// What carries the requests.

@@ -16,9 +16,9 @@ use plain_file::{FileBoard, Memory, Name};
 use std::alloc::Global;
 
 impl<W> Driver<W> {
-    /// Begins a session: INIT of version 7.31, with a read-ahead of 131,072 bytes. Where `ask_map` says so,
-    /// the alignment of the window is asked for (FUSE_MAP_ALIGNMENT). The answer is what the device has
-    /// of it.
+    /// Begins a session: INIT of version 7.31, with a read-ahead of 131,072 bytes, about no node (0).
+    /// Where `ask_map` says so, the alignment of the window is asked for (FUSE_MAP_ALIGNMENT). The answer
+    /// is what the device agrees to.
     #[tactic(auto, unfolding(fuse_codec::specs::Grammar::is_bounded, fuse_codec::specs::Grammar::kind_of, fuse_codec::specs::Grammar::asked, fuse_codec::specs::Grammar::form_room, fuse_codec::specs::Opcodes::reply_form, fuse_codec::specs::Replies::answered))]
     pub fn init<F: FileBoard, M: MapBoard>(
         &mut self,
@@ -52,7 +52,8 @@ impl<W> Driver<W> {
         Ok(init_in(reply))
     }
 
-    /// Ends the session: DESTROY, which is about no node (0).
+    /// Ends the session: DESTROY, which is about no node (0). Where the wire is honest, the map lets the
+    /// whole window be cleared.
     #[tactic(auto, unfolding(fuse_codec::specs::Grammar::is_bounded, fuse_codec::specs::Grammar::kind_of, fuse_codec::specs::Grammar::asked, fuse_codec::specs::Grammar::form_room, fuse_codec::specs::Opcodes::reply_form, fuse_codec::specs::Replies::answered))]
     pub fn destroy<F: FileBoard, M: MapBoard>(
         &mut self,
@@ -109,6 +110,7 @@ impl<W> Driver<W> {
     }
 }
 
+// A copy of a name.
 fn copy_of(name: &Name) -> Result<Name, Memory>
     ensures { IfOk result (λ n. n ≡ name.now) }
 {
