@@ -1,12 +1,12 @@
 -- The bytes that the device answers are none, or read as a reply to the request, and the chain has room for them.
-use Rattle.std.proofs.Common.{◌≡◌, ◌∙◌, ◌^◌, sym, refl, subst, ap, arith, ◌<◌, ◌≤◌, ℕ, ◌+◌, ◌-◌, ◌==◌, eqb, ltb, leb, Bool, true, false, true≢false, not, cond, List, [], ◌∷◌, ◌++◌, length, take, drop, Option, Some, None, Result, Ok, Err, nat_lt, ◌||◌, if◌then◌else◌}
-use Rattle.std.specs.Prelude.{ℤ, pos, neg_ℤ, int_lt, IfOk, IsOk, IsSome, IfSome, unwrap_or, option_map, FitsSigned, min}
+use Rattle.std.proofs.Common.{◌≡◌, ◌∙◌, ◌^◌, sym, refl, subst, ap, arith, ◌<◌, ◌≤◌, ℕ, ◌+◌, ◌==◌, eqb, ltb, Bool, true, false, not, List, [], ◌∷◌, ◌++◌, length, take, drop, Option, Some, None, Result, Ok, Err, nat_lt, ◌||◌, if◌then◌else◌}
+use Rattle.std.specs.Prelude.{ℤ, pos, neg_ℤ, int_lt, IfOk, IsOk, IsSome, unwrap_or, option_map, FitsSigned}
 use Rattle.std.specs.Int.{w32}
 use Rattle.std.proofs.lemmas.Int.{ints}
-use Rattle.std.proofs.lemmas.Bool.{eq-eqb, le-leb, ltb-false, le-ltb, not-false, eqb-true}
+use Rattle.std.proofs.lemmas.Bool.{eq-eqb, ltb-false, le-ltb}
 use Rattle.std.proofs.lemmas.List.Sums.{sum_by-cons}
 use Rattle.std.proofs.lemmas.List.{length-take, length-drop, length-append, append-nil, take_at, drop_at}
-use Rattle.fuse_wire.specs.Layout.{Bytes, AreSpelled, FitsParts, clean, parts_len}
+use Rattle.fuse_wire.specs.Layout.{Bytes, AreSpelled, FitsParts, clean}
 use Rattle.fuse_wire.specs.Errno.{errno_number}
 use Rattle.fuse_wire.specs.Records.{in_header, in_header_of, in_header_at, out_header, out_header_at, out_header_of, write_out, write_out_at, write_out_of}
 use Rattle.fuse_wire.specs.Attributes.{entry_out, entry_out_at, entry_out_of, attr_out, attr_out_at, attr_out_of}
@@ -16,41 +16,27 @@ use Rattle.fuse_wire.specs.declared.errno.Errno.{Errno}
 use Rattle.fuse_wire.specs.declared.errno.Errno.TheVariants as errnos
 use Rattle.fuse_wire.specs.declared.records.InHeader.{InHeader}
 use Rattle.fuse_wire.specs.declared.records.OutHeader.{OutHeader}
-use Rattle.fuse_wire.specs.declared.records.WriteOut.{WriteOut}
 use Rattle.fuse_wire.specs.declared.attributes.EntryOut.{EntryOut}
-use Rattle.fuse_wire.specs.declared.attributes.AttrOut.{AttrOut}
 use Rattle.fuse_wire.specs.declared.opens.OpenOut.{OpenOut}
-use Rattle.fuse_wire.specs.declared.inits.InitOut.{InitOut}
-use Rattle.fuse_wire.proofs.Laws.{IsBytes, IsBytes-take, clean_append, clean_spells, clean_len, spelled_fits}
+use Rattle.fuse_wire.proofs.Laws.{IsBytes, IsBytes-take, clean_spells, clean_len, spelled_fits}
 use Rattle.fuse_wire.proofs.RecordLaws.{cond_some, in_header_law, out_header_law}
-use Rattle.fuse_codec.specs.Grammar.{kind_of, room_of, form_room, asked, max_part, max_transfer, Spells, header_of}
+use Rattle.fuse_codec.specs.Grammar.{kind_of, max_part, header_of}
 use Rattle.fuse_codec.specs.Opcodes.{number, opcode_of, reply_form}
 use Rattle.fuse_codec.specs.Reading.{message_of}
 use Rattle.fuse_codec.specs.Replies.{form_of, reply_parts, error_of, is_reply, HasForm, reply_header, reply_len, clean_reply, answered, answer_form}
 use Rattle.fuse_codec.specs.ReplyReading.{created_of, success_of, reply_body_of, reply_with, reply_after, reply_of}
 use Rattle.fuse_codec.specs.declared.errors.BadRequest.{BadRequest}
-use Rattle.fuse_codec.specs.declared.errors.BadReply.{BadReply}
 use Rattle.fuse_codec.specs.declared.messages.Message.{Message}
 use Rattle.fuse_codec.specs.declared.messages.Request.{Request}
-use Rattle.fuse_codec.specs.declared.messages.Request.TheVariants as asks
-use Rattle.fuse_codec.specs.declared.opcodes.Opcode.{Opcode}
 use Rattle.fuse_codec.specs.declared.opcodes.ReplyForm.{ReplyForm}
 use Rattle.fuse_codec.specs.declared.opcodes.ReplyForm.TheVariants as forms
 use Rattle.fuse_codec.specs.declared.replies.Reply.{Reply}
 use Rattle.fuse_codec.specs.declared.replies.Reply.TheVariants as gives
 use Rattle.fuse_codec.proofs.CleanReplies.{entry_sized, attr_sized, opened_sized, wrote_sized, init_sized, created_sized, reply_bound}
-use Rattle.fuse_codec.proofs.LongestPrefix.{clean_dirents_len, fitting_within}
 use Rattle.fuse_codec.proofs.RequestLaws.{message_found, opcode_again}
-use Rattle.plain_file.specs.Board.{file_at, file_answer, may_apply, applied, bytes_now}
-use Rattle.plain_file.specs.File.{answer}
-use Rattle.plain_file.specs.declared.operations.Answer.{Answer}
-use Rattle.plain_file.specs.declared.operations.Op.{Op}
-use Rattle.plain_file.specs.declared.operations.Op.TheVariants as ops
-use Rattle.daemon_core.specs.State.{World, State, grants, named}
-use Rattle.daemon_core.specs.Entries.{entries, listed}
+use Rattle.daemon_core.specs.State.{World}
 use Rattle.daemon_core.specs.Checks.{Outcome, refuse}
-use Rattle.daemon_core.specs.Requests.{done, applies, bytes_reply, attr_of, opens, closes, found, unlinked, opens_entry, makes_entry, created, resizes, init, destroy, getattr, setattr, open_file, open_dir, release, release_dir, sync, fallocate, read, write, lookup, unlink, create, forget, batch_forget, read_dir, setup, remove, is_forget, is_init, served}
-use Rattle.daemon_core.specs.Requests as requests
+use Rattle.daemon_core.specs.Requests.{is_init, served}
 use Rattle.daemon_core.specs.Steps.{Step, wanted_room, reply_to, errno_of, judged_message, judged, replied, header_at, is_forget_number, forgot, device_step}
 use Rattle.daxwire.proofs.DeviceReplies.{request_form, Replies, served_ok}
 use Rattle.vring.specs.declared.chains.Piece.{Piece}

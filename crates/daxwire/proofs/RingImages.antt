@@ -1,5 +1,5 @@
 -- Where the ring of an image lies.
-use Rattle.std.proofs.Common.{◌≡◌, ◌∙◌, ap, refl, sym, ℕ, ◌≤◌, Bool, true, false, cond, List, length, drop, Option, Some, None, option_map}
+use Rattle.std.proofs.Common.{◌≡◌, refl, sym, ℕ, ◌≤◌, Bool, true, false, cond, List, length, drop, Some, None}
 use Rattle.vring.specs.declared.layouts.Layout.{Layout}
 use Rattle.vring.specs.Bytes.{max_memory}
 use Rattle.vring.specs.Layout.{is_allowed, IsLayout}

@@ -1,13 +1,12 @@
 -- Serving chain after chain: the lines so far, and then those of what follows, are the lines of all.
-use Rattle.std.proofs.Common.{◌≡◌, ◌∙◌, sym, refl, ap, subst, arith, ◌<◌, ◌≤◌, ℕ, zero, suc, ◌+◌, List, [], ◌∷◌, ◌++◌, Option, Some, None, Result, Ok, Err}
+use Rattle.std.proofs.Common.{◌≡◌, ◌∙◌, sym, refl, ap, arith, ◌<◌, ◌≤◌, ℕ, zero, suc, ◌+◌, List, [], ◌++◌, Option, Some, None, Result, Ok, Err}
 use Rattle.std.proofs.lemmas.List.{append-nil, append_assoc}
 use Rattle.vring.specs.declared.chains.Chain.{Chain}
 use Rattle.vring.specs.declared.faults.RingFault.{RingFault}
 use Rattle.vring.specs.Chain.{chain_at}
-use Rattle.daxwire.specs.declared.queue_devices.Turn.{Turn}
 use Rattle.daxwire.specs.declared.queue_devices.Turn.TheVariants as turns
 use Rattle.daxwire.specs.RingImage.{DeviceView}
-use Rattle.daxwire.specs.RingText.{Served, onto, no_more, found, served_at_most, offered, all_served, answered, popped, lines_of, readable_in, answer_to, Advances}
+use Rattle.daxwire.specs.RingText.{Served, onto, no_more, served_at_most, offered, all_served, answered, popped, lines_of, readable_in, answer_to, Advances}
 
 -- what is served of a device, of which so many chains were served with this text
 pub record IsServedSoFar (first : DeviceView) (count : ℕ) (now : DeviceView) (text : List ℕ) : Type 0 where

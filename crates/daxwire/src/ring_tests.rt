@@ -1,9 +1,8 @@
 ghost use Rattle.std.specs.Prelude.{◌≤◌};
 ghost use Rattle.vring.specs.Bytes.{max_memory};
 
-use crate::rings::ring;
-use crate::run_tests::{Ends, SURE, bytes_of, calls};
-use dax_script::{MemSink, MemSource, Status};
+use crate::run_tests::{Ends, SURE, bytes_of, ran};
+use dax_script::Status;
 use plain_file::{Blob, Memory};
 use std::alloc::Global;
 use std::test::Fail;
@@ -145,10 +144,7 @@ impl Head {
 /// The status of `ring` over bytes in memory, and what was taken.
 pub fn rang_by(alloc: Global, input: &[u8], from: Ends, to: Ends) -> Result<(Status, Blob), Fail> {
     let input = Blob::copy_of(alloc, input)?;
-    let mut source = MemSource::new(input, from.piece, calls(alloc, from.fails)?);
-    let mut sink = MemSink::new(alloc, to.piece, calls(alloc, to.fails)?);
-    let status = ring(alloc, &mut source, &mut sink);
-    Ok((status, sink.bytes().clone()?))
+    ran(alloc, &[b"ring".as_slice()], input, from, to)
 }
 
 /// The same, where neither source nor sink fails.

@@ -51,8 +51,7 @@ pub struct Ends {
 
 pub const SURE: Ends = Ends { piece: 0, fails: 0 };
 
-/// The number of the call that fails, if one does, as a list.
-pub fn calls(alloc: Global, fails: u64) -> Result<List<u64>, Memory> {
+fn calls(alloc: Global, fails: u64) -> Result<List<u64>, Memory> {
     let mut calls = List::new(alloc);
     if fails != 0 {
         calls.push(fails)?;
@@ -461,6 +460,8 @@ fn refuses_words_and_reads_nothing(rt: HostRuntime) -> Result<(), Fail> {
         [b"shows".as_slice()].as_slice(),
         [b"show".as_slice(), b"x".as_slice()].as_slice(),
         [b"x".as_slice(), b"show".as_slice()].as_slice(),
+        [b"serves".as_slice()].as_slice(),
+        [b"rings".as_slice()].as_slice(),
         [b"audit".as_slice()].as_slice(),
         [b"\xff\xfe".as_slice()].as_slice(),
     ] {

@@ -1,7 +1,4 @@
-use Rattle.std.proofs.Common.{ap, Err, subst}
-use Rattle.dax_script.specs.declared.statuses.Status.{Status}
-use Rattle.daxwire.specs.Courses.{Writes}
-use Rattle.daxwire.specs.RingText.{image_due}
+use Rattle.std.proofs.Common.{ap, Err}
 use Rattle.daxwire.proofs.RingRuns.{written_within, written_above, finished, write_fault, complete, rose}
 use Rattle.daxwire.proofs.rings.ring.Goals as goal
 

@@ -1,4 +1,4 @@
-use Rattle.std.proofs.Common.{◌∙◌, ap, sym, subst, arith}
+use Rattle.std.proofs.Common.{ap, sym, subst, arith}
 use Rattle.daxwire.specs.declared.queue_devices.Turn.{Turn}
 use Rattle.daxwire.specs.RingText.{Served, Advances}
 use Rattle.daxwire.proofs.ServingChains.{nothing_served, served_one, served_none, served_fault, served_all}
