@@ -1,0 +1,2 @@
+pub mod StepRoom
+pub mod Carrying

@@ -1,0 +1,8 @@
+//! The host's wires.
+#![tactic(auto)]
+
+mod queue;
+mod solo;
+mod transport;
+
+pub use solo::SoloWire;
