@@ -71,10 +71,26 @@ impl Queue {
         ensures memory { OnErr result (IsStepOrNot (world daemon.old (F.board files.old) (M.map map.old)) (sending readable.now room) (world daemon.new (F.board files.new) (M.map map.new))) }
     {
         let (driver, ring, memory) = (&mut self.driver, &mut self.ring, &mut self.memory);
-        deliver(driver, ring, memory, &mut self.chain, &mut self.readable, readable, room)?;
+        deliver(
+            driver,
+            ring,
+            memory,
+            &mut self.chain,
+            &mut self.readable,
+            readable,
+            room,
+        )?;
         let room = room_in(&self.chain);
         match daemon.serve_chain(alloc, &self.readable, room, files, map) {
-            Ok(bytes) => answer(alloc, driver, ring, memory, &self.chain, bytes.as_slice(), room),
+            Ok(bytes) => answer(
+                alloc,
+                driver,
+                ring,
+                memory,
+                &self.chain,
+                bytes.as_slice(),
+                room,
+            ),
             Err(Memory) => {
                 give_up(driver, ring, memory, room);
                 Err(Memory)

@@ -42,6 +42,9 @@ impl<'a, F: FileBoard, M: MapBoard> Wire<F, M> for SoloWire<'a> {
         files: &mut F,
         map: &mut M,
     ) -> Result<Blob, WireError> {
-        Ok(self.queue.carry(alloc, self.daemon, readable, room, files, map)?)
+        Ok(
+            self.queue
+                .carry(alloc, self.daemon, readable, room, files, map)?,
+        )
     }
 }

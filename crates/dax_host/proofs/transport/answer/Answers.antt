@@ -21,8 +21,8 @@ returns-clause-bytes c =
     let memory_is : c.push.new.memory ≡ used_pushed r (scattered mem pieces bytes) 0 len = c.push.ensures.memory ∙ ap (λ (m : List ℕ). used_pushed r m 0 len) c.put_answer-len.ensures.memory in
     let size_is : c.push.new.driver.size ≡ d.size = ap (λ (v : DriverView). v.size) c.push.ensures.driver in
     let whole : c.written.result.now ≡ bytes =
-        c.written.ensures
-        ∙ ap (λ (m : List ℕ). written_in m c.push.new.driver.size len) memory_is
-        ∙ ap (λ (n : ℕ). written_in (used_pushed r (scattered mem pieces bytes) 0 len) n len) size_is
-        ∙ law in
+    c.written.ensures
+    ∙ ap (λ (m : List ℕ). written_in m c.push.new.driver.size len) memory_is
+    ∙ ap (λ (n : ℕ). written_in (used_pushed r (scattered mem pieces bytes) 0 len) n len) size_is
+    ∙ law in
     subst (λ (xs : List ℕ). IfOk c.copy_of.result (λ b. b ≡ xs)) whole c.copy_of.ensures

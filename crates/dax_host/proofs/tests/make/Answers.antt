@@ -1,0 +1,46 @@
+use Rattle.std.proofs.Common.{refl}
+use Rattle.daemon_core.proofs.Servable.{servable_serves}
+use Rattle.guest_wire.proofs.Serving.{IsServable-answer}
+use Rattle.dax_host.proofs.tests.make.Goals as goal
+
+pub init-requires : goal.init-requires
+init-requires c = record { boards = λ _. servable_serves _ _ _ _ c.requires }
+
+pub open_file-requires : goal.open_file-requires
+open_file-requires c = record { boards = λ _. servable_serves _ _ _ _ c.requires }
+
+pub setup-requires : goal.setup-requires
+setup-requires c = record { boards = λ _. servable_serves _ _ _ _ c.requires }
+
+pub destroy-requires : goal.destroy-requires
+destroy-requires c = record { boards = λ _. servable_serves _ _ _ _ c.requires }
+
+pub write-requires-clause-boards : goal.write-requires-clause-boards
+write-requires-clause-boards c = λ _. servable_serves _ _ _ _ c.requires
+
+pub read-requires-clause-boards : goal.read-requires-clause-boards
+read-requires-clause-boards c = λ _. servable_serves _ _ _ _ c.requires
+
+pub read-requires-in-ReadClosed-clause-boards : goal.read-requires-in-ReadClosed-clause-boards
+read-requires-in-ReadClosed-clause-boards c = λ _. servable_serves _ _ _ _ c.requires
+
+pub returns-in-Init : goal.returns-in-Init
+returns-in-Init c = IsServable-answer _ _ _ _ _ _ _ _ _ c.init.ensures.answer refl c.requires
+
+pub returns-in-OpenFile : goal.returns-in-OpenFile
+returns-in-OpenFile c = IsServable-answer _ _ _ _ _ _ _ _ _ c.open_file.ensures.answer refl c.requires
+
+pub returns-in-Write : goal.returns-in-Write
+returns-in-Write c = IsServable-answer _ _ _ _ _ _ _ _ _ c.write.ensures.answer refl c.requires
+
+pub returns-in-Read : goal.returns-in-Read
+returns-in-Read c = IsServable-answer _ _ _ _ _ _ _ _ _ c.read.ensures.answer refl c.requires
+
+pub returns-in-ReadClosed : goal.returns-in-ReadClosed
+returns-in-ReadClosed c = IsServable-answer _ _ _ _ _ _ _ _ _ c.read-in-ReadClosed.ensures.answer refl c.requires
+
+pub returns-in-Setup : goal.returns-in-Setup
+returns-in-Setup c = IsServable-answer _ _ _ _ _ _ _ _ _ c.setup.ensures.answer refl c.requires
+
+pub returns-in-Destroy : goal.returns-in-Destroy
+returns-in-Destroy c = IsServable-answer _ _ _ _ _ _ _ _ _ c.destroy.ensures.answer refl c.requires

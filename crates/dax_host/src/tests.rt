@@ -1,0 +1,147 @@
+ghost use Rattle.std.specs.Prelude.{◌≡◌, ◌≤◌, length, IfOk};
+ghost use Rattle.std.specs.List.{IsDistinct};
+ghost use Rattle.std.specs.Str.{bytes_eq};
+ghost use Rattle.daemon_core.specs.Promises.{IsServable, world};
+
+use super::*;
+use daemon_core::Daemon;
+use fuse_codec::Reply;
+use fuse_wire::{InitOut, OpenOut, WriteOut};
+use guest_wire::{Driver, FileRef, WireRefusal};
+use page_map::{Mode, Page, PageMap};
+use plain_file::{Blob, First, List, Memory, Name, PlainFiles};
+use std::alloc::Global;
+use std::test::Fail;
+
+// One file's name: "a".
+#[tactic(auto, using(daemon_core::proofs::Servable::one_distinct, daemon_core::proofs::Servable::none_distinct))]
+fn one_name(alloc: Global) -> Result<List<Name>, Memory>
+    ensures few { IfOk result (λ names. length names ≤ 16) }
+    ensures different { IfOk result (λ names. IsDistinct bytes_eq names) }
+{
+    let mut names = List::new(alloc);
+    if let Some(name) = Name::copy_of(alloc, b"a")? {
+        names.push(name)?;
+    }
+    Ok(names)
+}
+
+// A device with file "a" and a window of 2,048 pages, which are four ranges.
+#[tactic(auto, using(daemon_core::proofs::Servable::servable_at_start))]
+fn device(alloc: Global) -> Result<(Daemon, PlainFiles, PageMap), Memory>
+    ensures { IfOk result (λ r. IsServable (world r.0 r.1 r.2)) }
+{
+    let firsts = List::from_vec(Vec::from_slice(alloc, &[First { size: 0, fill: 0 }; 16])?);
+    let names = one_name(alloc)?;
+    Ok((
+        Daemon::new(alloc, 2048, &names)?,
+        PlainFiles::new(alloc, 0, &firsts)?,
+        PageMap::new(alloc, 2048)?,
+    ))
+}
+
+// A client of a device that requests reach through a queue.
+type Client<'a> = Driver<SoloWire<'a>>;
+
+const A: FileRef = FileRef { node: 2, fh: 1 };
+
+// A call of the client.
+#[derive(Drop)]
+enum Call {
+    Init,
+    OpenFile,
+    Write,
+    Read,
+    ReadClosed,
+    Setup,
+    Destroy,
+}
+
+// Makes a call, about file "a" and its handle.
+fn make(
+    alloc: Global,
+    client: &mut Client,
+    files: &mut PlainFiles,
+    map: &mut PageMap,
+    call: &Call,
+) -> Result<Reply, WireRefusal>
+    requires { IsServable (world client.old.wire.daemon.now files.old map.old) }
+    ensures { IsServable (world client.new.wire.daemon.now files.new map.new) }
+{
+    match call {
+        Call::Init => client.init(alloc, true, files, map).map(Reply::Init),
+        Call::OpenFile => client.open_file(alloc, 2, files, map).map(opened),
+        Call::Write => client.write(alloc, A, 3, b"hello", files, map).map(wrote),
+        Call::Read => client
+            .read(alloc, A, 0, 1_048_576, files, map)
+            .map(Reply::Bytes),
+        Call::ReadClosed => client
+            .read(alloc, FileRef { node: 2, fh: 9 }, 0, 1, files, map)
+            .map(Reply::Bytes),
+        Call::Setup => client.setup(alloc, 2, 1, 2, Mode::W, files, map).map(done),
+        Call::Destroy => client.destroy(alloc, files, map).map(done),
+    }
+}
+
+fn opened(fh: u64) -> Reply {
+    Reply::Opened(OpenOut { fh, open_flags: 0 })
+}
+
+fn wrote(size: u32) -> Reply {
+    Reply::Wrote(WriteOut { size })
+}
+
+fn done(_: ()) -> Reply {
+    Reply::Done
+}
+
+fn init_reply() -> Reply {
+    Reply::Init(InitOut {
+        major: 7,
+        minor: 31,
+        max_readahead: 131_072,
+        flags: 67_108_864,
+        max_background: 16,
+        congestion_threshold: 12,
+        max_write: 1_048_576,
+        time_gran: 1,
+        max_pages: 0,
+        map_alignment: 12,
+        flags2: 0,
+    })
+}
+
+// A session through the queue, from before INIT to DESTROY: what each call answers, and what byte 5 of
+// range 2 is mapped to then.
+#[test]
+fn session(rt: HostRuntime) -> Result<(), Fail> {
+    let alloc = rt.alloc();
+    let (mut daemon, mut files, mut map) = device(alloc)?;
+    let mut client = Driver::new(SoloWire::new(alloc, &mut daemon)?);
+    let bytes = Blob::copy_of(alloc, b"\0\0\0hello")?;
+    let page = Some(Page {
+        node: 2,
+        foffset: 2_097_152 + 5,
+        mode: Mode::W,
+    });
+    let cases = [
+        (Call::OpenFile, Err(WireRefusal::Errno { number: 5 }), None),
+        (Call::Init, Ok(init_reply()), None),
+        (Call::OpenFile, Ok(opened(1)), None),
+        (Call::Write, Ok(wrote(5)), None),
+        (Call::Read, Ok(Reply::Bytes(bytes)), None),
+        (
+            Call::ReadClosed,
+            Err(WireRefusal::Errno { number: 9 }),
+            None,
+        ),
+        (Call::Setup, Ok(Reply::Done), page),
+        (Call::Destroy, Ok(Reply::Done), None),
+    ];
+    for (call, wanted, page) in &cases {
+        let answer = make(alloc, &mut client, &mut files, &mut map, call);
+        assert_eq!(rt; &answer, wanted);
+        assert_eq!(rt; map.find(4_194_304 + 5), *page);
+    }
+    Ok(())
+}
