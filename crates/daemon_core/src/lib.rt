@@ -10,8 +10,14 @@
 //! refusals, `specs/Requests.antt` what each request means, with its checks in `specs/Checks.antt`
 //! and what is told of nodes in `specs/Entries.antt`, over the state of `specs/State.antt`.
 //! `specs/Promises.antt` has what the contracts ask of the boards. `proofs/Examples.antt` has whole
-//! chains whose answers are known, and `proofs/Servable.antt` says that boards which one caller has
-//! for itself can be served chain after chain.
+//! chains whose answers are known, `proofs/Servable.antt` says that boards which one caller has for
+//! itself can be served chain after chain, and `proofs/Mapped.antt` that the window maps made files
+//! and no others.
+//!
+//! [`Daemon::serve_chain_data`] serves, over a daemon that stays as it is, the operations on bytes,
+//! sizes and mappings alone, and [`Daemon::named_file`] tells which file has to be ready for them.
+//! `specs/DataSteps.antt` states both; `proofs/DataLaws.antt` says that what is carried out so is what
+//! the whole device does, and that the device stays as it is.
 //!
 //! A client stands on `proofs/OpenHandles.antt`: what an INIT, a LOOKUP, an OPEN, and the READs and
 //! WRITEs of an open file give, over any boards and in any spelling, and that no board refuses such a
@@ -38,4 +44,18 @@ pub use daemon::Daemon;
 pub use refusals::Refused;
 
 #[cfg(test)]
+mod check_tests;
+#[cfg(test)]
+mod data_tests;
+#[cfg(test)]
+mod listing_tests;
+#[cfg(test)]
+mod naming_tests;
+#[cfg(test)]
 mod session_tests;
+#[cfg(test)]
+mod test_boards;
+#[cfg(test)]
+mod test_chains;
+#[cfg(test)]
+mod wire_tests;

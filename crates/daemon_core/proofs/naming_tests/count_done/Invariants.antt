@@ -1,0 +1,5 @@
+use Rattle.daemon_core.specs.Promises.{IsServable, world}
+use Rattle.daemon_core.proofs.naming_tests.count_done.Given as goal
+
+abbrev pub invariant-loop-turn : goal.invariant-loop-turn
+invariant-loop-turn l = IsServable (world l.daemon l.files l.map)

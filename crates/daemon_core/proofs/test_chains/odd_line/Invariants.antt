@@ -1,0 +1,5 @@
+use Rattle.daemon_core.specs.Promises.{IsServable, world}
+use Rattle.daemon_core.proofs.test_chains.odd_line.Given as goal
+
+abbrev pub invariant-loop-line : goal.invariant-loop-line
+invariant-loop-line l = IsServable (world l.daemon l.files l.map)

@@ -1,0 +1,262 @@
+ghost use Rattle.daemon_core.specs.Promises.{IsServable, world};
+
+use super::Daemon;
+use crate::test_boards::{BarelessFiles, HandlessMap};
+use crate::test_chains::{BEGIN, Case, bytes_of, device};
+use fuse_codec::MAX_PART;
+use page_map::{MapBoard, PageMap};
+use plain_file::{Blob, Memory, PlainFiles};
+use std::alloc::Global;
+use std::test::Fail;
+
+// What is carried out while the daemon stays as it is, before a session and in one.
+const EARLY: &str = "
+no session; 15; 2; 25; 5; q2 q0 d9 z20;
+no session is begun; 26; 0; 80; 38; d7 d31 z8;
+refused before the session; 14; 2; 32; 38; z8;
+";
+
+const CARRIED_OUT: &str = "
+write; 16; 2; 24; 0; q2 q0 d2 z20 x0708; x02 z7
+read; 15; 2; 25; 0; q2 q1 d9 z20; x08
+getattr; 3; 2; 120; 0; d1 z4 q2; z16 q2 q2 q1 z36 d33188 d1 z12 d4096 z4
+setattr; 4; 2; 120; 0; d72 z4 q2 q1 z64; z16 q2 q1 q1 z36 d33188 d1 z12 d4096 z4
+fsync; 20; 2; 16; 0; x02 z15;
+flush; 25; 2; 16; 0; q2 z16;
+setupmapping; 48; 2; 16; 0; q18446744073709551615 q0 q8192 q3 q0;
+removemapping; 49; 0; 16; 0; x01 z12 x10 z6;
+no node; 15; 20; 25; 2; q2 q0 d9 z20;
+no handle; 15; 2; 25; 9; q1 q0 d9 z20;
+no room; 15; 2; 24; 22; q2 q0 d9 z20;
+a body too short; 16; 2; 24; 22; z39;
+";
+
+// What isn't.
+const REFUSED: &str = "
+init; 26; 0; 80; 38; d7 d31 z8;
+lookup; 1; 1; 144; 38; x61 z1;
+unlink; 10; 1; 16; 38; x61 z1;
+open; 14; 2; 32; 38; z8;
+open, before its room; 14; 2; 16; 38; z8;
+open, after its body; 14; 2; 32; 22; z7;
+release; 18; 2; 16; 38; q2 z16;
+opendir; 27; 1; 32; 38; z8;
+readdir; 28; 1; 25; 38; q3 q0 d9 z20;
+releasedir; 29; 1; 16; 38; q3 z16;
+create; 35; 1; 160; 38; d0 z12 x6300;
+create, after its body; 35; 1; 160; 22; d0 z12 x2f00;
+destroy; 38; 0; 16; 38; ;
+fallocate; 43; 2; 16; 38; q2 z24;
+no operation; 17; 0; 16; 38; ;
+forget; 2; 3; 0; 0; x01 z7;
+batch_forget; 42; 0; 0; 0; z8;
+";
+
+// Here the error is the file whose turn the request needs, counted from 1, or 0.
+const TURNS: &str = "
+getattr; 3; 2; 0; 1; d0 z4 q0;
+getattr, whatever its handle; 3; 3; 0; 2; d1 z4 q99;
+setattr; 4; 2; 0; 1; d0 z4 q0 q0 z64;
+read; 15; 3; 0; 2; q1 q0 d9 z20;
+read, whatever its size; 15; 3; 0; 2; q1 q0 d2000000 z20;
+write; 16; 2; 0; 1; q2 q0 d2 z20 x0708;
+fsync; 20; 2; 0; 0; d0 z4 q2;
+flush; 25; 2; 0; 0; q2 z16;
+open; 14; 2; 0; 0; z8;
+setupmapping; 48; 2; 0; 0; q18446744073709551615 q0 q8192 q3 q0;
+fallocate; 43; 2; 0; 0; q2 z24;
+the directory; 3; 1; 0; 0; d0 z4 q0;
+no node; 3; 0; 0; 0; d0 z4 q0;
+a node of no file; 3; 4; 0; 0; d0 z4 q0;
+a node past all; 3; 18446744073709551615; 0; 0; d0 z4 q0;
+a getattr too short; 3; 2; 0; 0; z15;
+a setattr too long; 4; 2; 0; 0; z89;
+a read too short; 15; 2; 0; 0; z39;
+a write too short; 16; 2; 0; 0; z39;
+a write of more bytes than it says; 16; 2; 0; 0; z41;
+no operation; 17; 2; 0; 0; ;
+";
+
+// What the boards refuse is answered EBUSY, after all other checks.
+const BOARDS: &str = "
+setattr: end before board; 4; 2; 4096; 27; d8 z4 q0 q67108865 z64;
+setattr: board; 4; 2; 4096; 16; d8 z4 q0 q0 z64;
+setupmapping: parts before board; 48; 2; 4096; 22; q18446744073709551615 q0 q4096 q4 q0;
+setupmapping: board; 48; 2; 4096; 16; q18446744073709551615 q0 q4096 q3 q0;
+removemapping: parts before board; 49; 0; 4096; 22; x02 z12 x10 z6 x01 z8 x10 z6;
+removemapping: board; 49; 0; 4096; 16; x01 z12 x10 z6;
+";
+
+fn serve(
+    alloc: Global,
+    daemon: &Daemon,
+    files: &mut PlainFiles,
+    map: &mut PageMap,
+    case: &Case,
+) -> Result<Blob, Memory>
+    requires { IsServable (world daemon.now files.old map.old) }
+    ensures { IsServable (world daemon.now files.new map.new) }
+{
+    if case.readable.len() > MAX_PART as usize {
+        return Err(Memory);
+    }
+    daemon.serve_chain_data(alloc, &case.readable, case.room, files, map)
+}
+
+// Serves a table's chains one after another while the daemon stays, and gives the first line that is answered otherwise.
+fn odd_line(
+    alloc: Global,
+    daemon: &Daemon,
+    files: &mut PlainFiles,
+    map: &mut PageMap,
+    table: &'static str,
+) -> Result<Option<&'static str>, Memory>
+    requires { IsServable (world daemon.now files.old map.old) }
+    ensures { IsServable (world daemon.now files.new map.new) }
+{
+    for line in table.lines() {
+        if line.is_empty() {
+            continue;
+        }
+        let case = Case::of(alloc, line)?;
+        let reply = serve(alloc, daemon, files, map, &case)?;
+        if !case.is_answered(reply.as_slice()) {
+            return Ok(Some(line));
+        }
+    }
+    Ok(None)
+}
+
+#[test]
+fn carried_out(rt: HostRuntime) -> Result<(), Fail> {
+    let alloc = rt.alloc();
+    let (mut daemon, mut files, mut map) = device(alloc)?;
+    let odd = odd_line(alloc, &daemon, &mut files, &mut map, EARLY)?;
+    assert_eq!(rt; odd, None);
+    let odd = crate::test_chains::odd_line(alloc, &mut daemon, &mut files, &mut map, BEGIN)?;
+    assert_eq!(rt; odd, None);
+    let odd = odd_line(alloc, &daemon, &mut files, &mut map, CARRIED_OUT)?;
+    assert_eq!(rt; odd, None);
+    assert!(rt; map.find(4095).is_none());
+    assert!(rt; map.find(4096).is_some());
+    let odd = odd_line(alloc, &daemon, &mut files, &mut map, REFUSED)?;
+    assert_eq!(rt; odd, None);
+    Ok(())
+}
+
+// The first line whose request needs another turn.
+fn odd_turn(
+    alloc: Global,
+    daemon: &Daemon,
+    table: &'static str,
+) -> Result<Option<&'static str>, Memory> {
+    for line in table.lines() {
+        if line.is_empty() {
+            continue;
+        }
+        let case = Case::of(alloc, line)?;
+        if case.readable.len() > MAX_PART as usize {
+            return Err(Memory);
+        }
+        let counted = match daemon.named_file(&case.readable) {
+            Some(file) => (file as u64) + 1,
+            None => 0,
+        };
+        if counted != case.error as u64 {
+            return Ok(Some(line));
+        }
+    }
+    Ok(None)
+}
+
+// The file whose turn these bytes need.
+fn turn_of(alloc: Global, daemon: &Daemon, parts: &str) -> Result<Option<u32>, Memory> {
+    let readable = bytes_of(alloc, parts)?;
+    if readable.len() > MAX_PART as usize {
+        return Err(Memory);
+    }
+    Ok(daemon.named_file(&readable))
+}
+
+#[test]
+fn turns(rt: HostRuntime) -> Result<(), Fail> {
+    let alloc = rt.alloc();
+    let (mut daemon, mut files, mut map) = device(alloc)?;
+    let odd = crate::test_chains::odd_line(alloc, &mut daemon, &mut files, &mut map, BEGIN)?;
+    assert_eq!(rt; odd, None);
+    let odd = odd_turn(alloc, &daemon, TURNS)?;
+    assert_eq!(rt; odd, None);
+    assert_eq!(rt; turn_of(alloc, &daemon, "d56 d3 q7 q2 z32")?, Some(0));
+    assert_eq!(rt; turn_of(alloc, &daemon, "z39")?, None);
+    assert_eq!(rt; turn_of(alloc, &daemon, "d57 d3 q7 q2 z32")?, None);
+    assert_eq!(rt;
+        turn_of(alloc, &daemon, "d56 d3 q7 q2 z12 x0100 z18")?,
+        None
+    );
+    Ok(())
+}
+
+// Serves a chain over boards that have nothing in hand.
+
+fn serve_without_hands(
+    alloc: Global,
+    daemon: &Daemon,
+    files: &PlainFiles,
+    map: &PageMap,
+    case: &Case,
+) -> Result<Blob, Memory>
+    requires { IsServable (world daemon.now files.now map.now) }
+{
+    let _ = files;
+    let mut bareless = BarelessFiles::new();
+    let mut handless = HandlessMap::new(map.pages());
+    if case.readable.len() > MAX_PART as usize {
+        return Err(Memory);
+    }
+    daemon.serve_chain_data(
+        alloc,
+        &case.readable,
+        case.room,
+        &mut bareless,
+        &mut handless,
+    )
+}
+
+// The first line that is answered otherwise over such boards.
+fn odd_without_hands(
+    alloc: Global,
+    daemon: &Daemon,
+    files: &PlainFiles,
+    map: &PageMap,
+    table: &'static str,
+) -> Result<Option<&'static str>, Memory>
+    requires { IsServable (world daemon.now files.now map.now) }
+{
+    for line in table.lines() {
+        if line.is_empty() {
+            continue;
+        }
+        let case = Case::of(alloc, line)?;
+        let reply = serve_without_hands(alloc, daemon, files, map, &case)?;
+        if !case.is_answered(reply.as_slice()) {
+            return Ok(Some(line));
+        }
+    }
+    Ok(None)
+}
+
+#[test]
+fn refused_by_boards(rt: HostRuntime) -> Result<(), Fail> {
+    let alloc = rt.alloc();
+    let (mut daemon, mut files, mut map) = device(alloc)?;
+    let odd = crate::test_chains::odd_line(alloc, &mut daemon, &mut files, &mut map, BEGIN)?;
+    assert_eq!(rt; odd, None);
+    let odd = odd_without_hands(alloc, &daemon, &files, &map, BOARDS)?;
+    assert_eq!(rt; odd, None);
+    let longer = Case::of(
+        alloc,
+        "no memory for an entry; 4; 2; 4096; 0; d8 z4 q0 q2 z64;",
+    )?;
+    assert!(rt; serve_without_hands(alloc, &daemon, &files, &map, &longer).is_err());
+    Ok(())
+}
