@@ -1,13 +1,11 @@
 -- What a client makes of its requests, each of which succeeds.
-use Rattle.std.proofs.Common.{◌≡◌, ◌∙◌, ap, sym, refl, subst, arith, ℕ, ◌+◌, ◌-◌, ◌<◌, ◌≤◌, ◌^◌, ◌==◌, Bool, true, false, List, length, take, drop, Option, Some, None, Ok, Err}
-use Rattle.std.specs.Prelude.{Result}
+use Rattle.std.proofs.Common.{◌≡◌, ◌∙◌, ap, sym, refl, subst, arith, ℕ, ◌+◌, ◌-◌, ◌<◌, ◌≤◌, ◌^◌, Bool, true, List, length, take, drop, Option, Some, Ok}
 use Rattle.plain_file.specs.declared.operations.Op.TheVariants as ops
 use Rattle.plain_file.specs.File.{max_file}
-use Rattle.plain_file.specs.Board.{BoardView, file_at, bytes_now, size_of, applied}
+use Rattle.plain_file.specs.Board.{file_at, bytes_now, size_of, applied}
 use Rattle.std.proofs.lemmas.Bool.{eq-eqb, le-leb}
 use Rattle.fuse_codec.specs.Grammar.{kind_of, is_bounded, Spells}
 use Rattle.fuse_codec.specs.Opcodes.{number}
-use Rattle.fuse_codec.specs.Replies.{SpellsAnswer}
 use Rattle.fuse_codec.specs.ReplyReading.{GivesReply}
 use Rattle.fuse_codec.specs.declared.messages.Request.{Request}
 use Rattle.fuse_codec.specs.declared.messages.Request.TheVariants as asks
@@ -19,7 +17,7 @@ use Rattle.fuse_wire.specs.declared.opens.OpenIn.{OpenIn}
 use Rattle.fuse_wire.specs.declared.opens.OpenOut.{OpenOut}
 use Rattle.fuse_wire.specs.declared.records.WriteIn.{WriteIn}
 use Rattle.fuse_wire.specs.declared.records.WriteOut.{WriteOut}
-use Rattle.daemon_core.specs.State.{State, World, is_made, named, begun, looked_up, with_open}
+use Rattle.daemon_core.specs.State.{World, is_made, named, begun, looked_up, with_open}
 use Rattle.daemon_core.specs.Checks.{is_known, may_open}
 use Rattle.daemon_core.specs.Entries.{session_flags, init_out_with, entry_of, open_out_of}
 use Rattle.daemon_core.specs.Steps.{wanted_room, device_step}

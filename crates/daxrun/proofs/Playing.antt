@@ -1,5 +1,5 @@
 -- One call more on the only file of a board.
-use Rattle.std.proofs.Common.{◌≡◌, ◌∙◌, ap, sym, subst, refl, ℕ, zero, suc, ◌+◌, ◌-◌, ◌<◌, Bool, true, IsTrue, List, [], ◌∷◌, ◌++◌, length, slice_get, Some, arith, length-append}
+use Rattle.std.proofs.Common.{◌≡◌, ◌∙◌, ap, refl, ℕ, ◌+◌, ◌-◌, ◌<◌, Bool, true, List, [], ◌∷◌, ◌++◌, length, slice_get, Some, arith, length-append}
 use Rattle.std.proofs.lemmas.List.{length-set, length-replicate}
 use Rattle.std.specs.Str.{bytes_eq}
 use Rattle.std.proofs.lemmas.Slice.Eq.{bytes_eq-Decides}
@@ -14,9 +14,9 @@ use Rattle.plain_file.specs.Board.{FileView, BoardView, file_at, with_own, entry
 use Rattle.plain_file.proofs.Grows.{bytes-grown}
 use Rattle.plain_file.proofs.OneFile.{file_at-with_file}
 use Rattle.page_map.specs.Board.{MapView}
-use Rattle.daemon_core.specs.State.{State, World, new_state, begun, looked_up, named, is_made}
+use Rattle.daemon_core.specs.State.{State, new_state, begun, looked_up, named, is_made}
 use Rattle.daemon_core.specs.Checks.{is_known, may_open}
-use Rattle.daemon_core.specs.Promises.{IsServable, world}
+use Rattle.daemon_core.specs.Promises.{world}
 use Rattle.daxrun.specs.declared.client.FileRef.{FileRef}
 use Rattle.daxrun.specs.Play.{IsPlayed, IsOpened, firsts_of}
 

@@ -1,11 +1,10 @@
-use Rattle.std.proofs.Common.{◌≡◌, ◌∙◌, ◌≤◌, ap, sym, subst, refl, [], ◌∷◌, Some, true}
+use Rattle.std.proofs.Common.{◌≡◌, ◌∙◌, ◌≤◌, ap, sym, subst, [], ◌∷◌, Some, true}
 use Rattle.plain_file.specs.File.{max_file}
 use Rattle.plain_file.specs.Board.{BoardView, size_of, file_at}
 use Rattle.fuse_wire.specs.declared.attributes.EntryOut.{EntryOut}
-use Rattle.daemon_core.specs.State.{State, new_state, begun, looked_up, named, is_made}
-use Rattle.daemon_core.specs.Checks.{is_known, may_open}
-use Rattle.daemon_core.specs.OpenFiles.{HasOpenFile}
-use Rattle.daxrun.proofs.Playing.{named-first, found-first, IsFound}
+use Rattle.daemon_core.specs.State.{State, new_state, begun, looked_up, named}
+use Rattle.daemon_core.specs.Checks.{may_open}
+use Rattle.daxrun.proofs.Playing.{named-first, found-first}
 use Rattle.daxrun.proofs.plays.open_file.Goals as goal
 
 pub lookup-requires-clause-started : goal.lookup-requires-clause-started

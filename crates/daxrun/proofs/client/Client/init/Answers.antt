@@ -1,4 +1,4 @@
-use Rattle.std.proofs.Common.{◌≡◌, ◌∙◌, ap, sym, subst, refl, arith, List, ℕ}
+use Rattle.std.proofs.Common.{ap, sym, subst, refl, arith}
 use Rattle.fuse_codec.specs.Grammar.{is_bounded, kind_of, asked, form_room}
 use Rattle.fuse_codec.specs.Opcodes.{reply_form}
 use Rattle.fuse_codec.specs.declared.messages.Request.TheVariants as asks

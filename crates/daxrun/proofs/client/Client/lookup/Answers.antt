@@ -1,11 +1,10 @@
-use Rattle.std.proofs.Common.{◌≡◌, ◌∙◌, ap, sym, subst, refl, arith, List, ℕ}
+use Rattle.std.proofs.Common.{◌∙◌, ap, sym, subst, arith, List, ℕ}
 use Rattle.fuse_codec.specs.Grammar.{kind_of, asked, form_room}
 use Rattle.fuse_codec.specs.Opcodes.{reply_form}
 use Rattle.fuse_codec.specs.declared.messages.Request.TheVariants as asks
 use Rattle.daemon_core.specs.State.{World}
 use Rattle.daemon_core.specs.Promises.{world}
 use Rattle.daemon_core.specs.OpenFiles.{Succeeds, CanSucceed}
-use Rattle.std.proofs.Common.{◌≤◌}
 use Rattle.fuse_codec.specs.declared.replies.Reply.TheVariants as gives
 use Rattle.daemon_core.specs.State.{looked_up}
 use Rattle.daemon_core.specs.Entries.{entry_of}

@@ -1,11 +1,8 @@
-use Rattle.std.proofs.Common.{◌≡◌, ◌∙◌, ap, sym, subst, refl, arith, List, ℕ}
+use Rattle.std.proofs.Common.{ap, sym, subst, refl, arith, ℕ}
 use Rattle.fuse_codec.specs.Grammar.{is_bounded, kind_of, asked, form_room}
 use Rattle.fuse_codec.specs.Opcodes.{reply_form}
-use Rattle.fuse_codec.specs.declared.messages.Request.TheVariants as asks
 use Rattle.daemon_core.specs.State.{World}
 use Rattle.daemon_core.specs.Promises.{world}
-use Rattle.daemon_core.specs.OpenFiles.{Succeeds, CanSucceed}
-use Rattle.fuse_wire.specs.declared.opens.OpenIn.{OpenIn}
 use Rattle.fuse_wire.specs.declared.opens.OpenOut.{OpenOut}
 use Rattle.daemon_core.specs.State.{State, with_open}
 use Rattle.daemon_core.specs.OpenFiles.{HasOpenFile}

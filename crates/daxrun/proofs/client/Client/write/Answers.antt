@@ -1,16 +1,13 @@
-use Rattle.std.proofs.Common.{◌≡◌, ◌∙◌, ap, sym, subst, refl, arith, List, ℕ}
+use Rattle.std.proofs.Common.{ap, sym, subst, arith, List, ℕ}
 use Rattle.fuse_codec.specs.Grammar.{is_bounded, kind_of, asked, form_room}
 use Rattle.fuse_codec.specs.Opcodes.{reply_form}
 use Rattle.fuse_codec.specs.declared.messages.Request.TheVariants as asks
 use Rattle.daemon_core.specs.State.{World}
 use Rattle.daemon_core.specs.Promises.{world}
 use Rattle.daemon_core.specs.OpenFiles.{Succeeds, CanSucceed}
-use Rattle.plain_file.specs.declared.operations.Op.TheVariants as ops
-use Rattle.plain_file.specs.Board.{applied}
 use Rattle.fuse_wire.specs.declared.records.WriteIn.{WriteIn}
 use Rattle.fuse_wire.specs.declared.records.WriteOut.{WriteOut}
-use Rattle.std.proofs.Common.{length, ◌≤◌, ◌+◌, true, Bool}
-use Rattle.std.proofs.lemmas.Grind.{common_steps}
+use Rattle.std.proofs.Common.{length}
 use Rattle.daxrun.specs.Client.{write_for}
 use Rattle.daxrun.proofs.Asking.{can_write, did_write, wrote_is, write_bounded}
 use Rattle.daxrun.proofs.client.Client.write.Goals as goal
