@@ -143,7 +143,7 @@ opened_is_open s node started made =
       started = started;
       made = made;
       handle = any_last (λ o. o.fh == s.next_fh && o.node == node && (if node == 1 then is_dir o.kind else not (is_dir o.kind))) s.opened (next_opened s node)
-        (rw (eq-eqb s.next_fh s.next_fh refl, eq-eqb node node refl, file) refl);
+          (rw (eq-eqb s.next_fh s.next_fh refl, eq-eqb node node refl, file) refl);
     }
 
 -- ---- the beginning of a session

@@ -19,6 +19,9 @@
 //! `specs/DataSteps.antt` states both; `proofs/DataLaws.antt` says that what is carried out so is what
 //! the whole device does, and that the device stays as it is.
 //!
+//! [`load_window`] and [`store_window`], of the crate below, are the guest's accesses to the window that
+//! the device maps.
+//!
 //! A client stands on `proofs/OpenHandles.antt`: what an INIT, a LOOKUP, an OPEN, and the READs and
 //! WRITEs of an open file give, over any boards and in any spelling, and that no board refuses such a
 //! read or write (`proofs/Allowed.antt`). `proofs/Receiving.antt` says that the bytes answered are then
@@ -42,6 +45,7 @@ mod turns;
 
 pub use daemon::Daemon;
 pub use refusals::Refused;
+pub use window_access::{WindowRefusal, load_window, store_window};
 
 #[cfg(test)]
 mod check_tests;

@@ -315,12 +315,7 @@ fn write_for(fh: u64, off: u64, size: u32) -> WriteIn
 
 // The reply that bytes spell to the request of this operation and number; None where they spell none,
 // or one to another request.
-fn reply_to(
-    alloc: Global,
-    opcode: u32,
-    unique: u64,
-    bytes: &[u8],
-) -> Result<Option<Reply>, Memory>
+fn reply_to(alloc: Global, opcode: u32, unique: u64, bytes: &[u8]) -> Result<Option<Reply>, Memory>
     requires answered { IsSome (answer_form opcode) }
     requires small { length bytes.now < 2 ^ 32 }
     ensures found { IfOk result (λ o. IfSome o (λ reply. SpellsAnswer opcode unique reply bytes.now)) }
