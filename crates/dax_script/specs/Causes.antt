@@ -1,10 +1,7 @@
 -- What a fault of a source or a sink owes, and how much of a text came through.
 use Rattle.std.specs.Prelude.{ℕ, ◌+◌, ◌-◌, ◌^◌, ◌<◌, ◌≤◌, min, Bool, if◌then◌else◌, List, length, take, Option, Result, OnErr}
 use Rattle.std.specs.Io.KnownBytes.{Consumes, Appends}
-
--- a count rose, or stands at its last value
-abbrev pub Rose : ℕ → ℕ → Type 0
-Rose before now = min (before + 1) (2 ^ 64 - 1) ≤ now
+use Rattle.plain_file.specs.Counts.{Rose}
 
 -- a count of faults after a call that failed or not
 abbrev pub count_after : ℕ → Bool → ℕ

@@ -1,6 +1,7 @@
 ghost use Rattle.std.specs.Prelude.{◌≡◌, ◌<◌, ◌≤◌, ◌+◌, length, IfOk, IfSome, OnOk, IsErrOf};
 ghost use Rattle.std.specs.Io.KnownBytes.{IsAtEnd};
-ghost use Rattle.dax_script.specs.Causes.{Rose, TakesAtMost, buffer};
+ghost use Rattle.plain_file.specs.Counts.{Rose};
+ghost use Rattle.dax_script.specs.Causes.{TakesAtMost, buffer};
 
 use crate::traits::Source;
 use plain_file::Blob;

@@ -1,7 +1,8 @@
 ghost use Rattle.std.specs.Prelude.{◌≡◌, ◌<◌, ℕ, List, length, Option, IfOk};
 ghost use Rattle.std.specs.Io.{ReadsAtMost, WritesAtMost};
 ghost use Rattle.std.specs.Io.KnownBytes.{ReadConsumes, WriteAppends};
-ghost use Rattle.dax_script.specs.Causes.{HasCause, Rose};
+ghost use Rattle.plain_file.specs.Counts.{Rose};
+ghost use Rattle.dax_script.specs.Causes.{HasCause};
 
 use thiserror::Error;
 

@@ -4,7 +4,8 @@ use Rattle.std.specs.Str.{bytes_eq}
 use Rattle.std.specs.Io.KnownBytes.{Appends, Keeps}
 use Rattle.dax_script.specs.declared.statuses.Status.{Status}
 use Rattle.dax_script.specs.declared.statuses.Status.TheVariants as statuses
-use Rattle.dax_script.specs.Causes.{Rose, AppendsPart}
+use Rattle.plain_file.specs.Counts.{Rose}
+use Rattle.dax_script.specs.Causes.{AppendsPart}
 use Rattle.daxrun.specs.declared.scripts.Script.{Script}
 use Rattle.daxrun.specs.declared.transcripts.Transcript.{Transcript}
 use Rattle.daxrun.specs.ScriptText.{script_of}

@@ -1,6 +1,7 @@
 ghost use Rattle.std.specs.Prelude.{◌≡◌, ◌≢◌, ◌≤◌, ◌<◌, ◌+◌, ℕ, List, true, false, Some, None, length, IfOk, IfSome};
 ghost use Rattle.std.specs.Io.KnownBytes.{Appends, Keeps, IsAtEnd};
-ghost use Rattle.dax_script.specs.Causes.{Rose, AppendsPart, TakesAtMost, buffer};
+ghost use Rattle.plain_file.specs.Counts.{Rose};
+ghost use Rattle.dax_script.specs.Causes.{AppendsPart, TakesAtMost, buffer};
 ghost use Rattle.dax_script.specs.declared.statuses.Status.{Status};
 ghost use Rattle.daxrun.specs.declared.scripts.Script.{Script};
 ghost use Rattle.daxrun.specs.ScriptText.{script_of};

@@ -5,7 +5,8 @@ use Rattle.std.proofs.lemmas.Grind.{common_steps}
 use Rattle.std.proofs.Math.Seq.{take-append-add}
 use Rattle.std.proofs.KnownBytes.{Consumes-nil, Consumes-trans, Appends-nil, Appends-trans, Appends-kept}
 use Rattle.std.specs.Io.KnownBytes.{Appends, Consumes, Keeps, IsAtEnd}
-use Rattle.dax_script.specs.Causes.{Rose, AppendsFront, AppendsPart}
+use Rattle.plain_file.specs.Counts.{Rose}
+use Rattle.dax_script.specs.Causes.{AppendsFront, AppendsPart}
 use Rattle.dax_script.specs.declared.statuses.Status.{Status}
 use Rattle.dax_script.specs.declared.statuses.Status.TheVariants as statuses
 use Rattle.daxwire.specs.declared.frames.End.{End}

@@ -3,7 +3,8 @@ use Rattle.std.proofs.Common.{◌≡◌, ◌∙◌, ap, sym, subst, refl, ℕ, �
 use Rattle.std.proofs.lemmas.Bool.{lt-ltb, le-ltb}
 use Rattle.std.specs.Prelude.{codes}
 use Rattle.std.specs.Io.KnownBytes.{Appends}
-use Rattle.dax_script.specs.Causes.{Rose, AppendsPart}
+use Rattle.plain_file.specs.Counts.{Rose}
+use Rattle.dax_script.specs.Causes.{AppendsPart}
 use Rattle.dax_script.specs.declared.statuses.Status.{Status}
 use Rattle.dax_script.specs.declared.statuses.Status.TheVariants as statuses
 use Rattle.daxwire.specs.Frames.{limit}

@@ -1,7 +1,8 @@
 -- What becomes of a stream, as a function of the bytes that are still to come, and what was done of it.
 use Rattle.std.specs.Prelude.{◌≡◌, ℕ, ◌+◌, ◌≤◌, Bool, true, false, ◌||◌, nat_lt, List, ◌++◌, length, Option, IfSome}
 use Rattle.std.specs.Io.KnownBytes.{Appends, Consumes, Keeps, IsAtEnd}
-use Rattle.dax_script.specs.Causes.{Rose, AppendsFront, AppendsPart}
+use Rattle.plain_file.specs.Counts.{Rose}
+use Rattle.dax_script.specs.Causes.{AppendsFront, AppendsPart}
 use Rattle.dax_script.specs.declared.statuses.Status.{Status}
 use Rattle.dax_script.specs.declared.statuses.Status.TheVariants as statuses
 use Rattle.fuse_wire.specs.Records.{u32_at}

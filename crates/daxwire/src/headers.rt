@@ -1,6 +1,6 @@
 ghost use Rattle.std.specs.Prelude.{◌≡◌, ◌≤◌, ◌<◌, ◌+◌, [], true, false, length, Some, None, IfOk, IfErr, IfSome, IsErrOf};
 ghost use Rattle.std.specs.Io.KnownBytes.{Consumes, IsAtEnd};
-ghost use Rattle.dax_script.specs.Causes.{Rose};
+ghost use Rattle.plain_file.specs.Counts.{Rose};
 ghost use Rattle.fuse_wire.specs.Records.{u32_at};
 ghost use Rattle.daxwire.specs.Frames.{is_header};
 ghost use Rattle.daxwire.specs.Headers.{IsHeaded, IsUnheaded, IsWaiting, header_pages};

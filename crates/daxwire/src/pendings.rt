@@ -1,6 +1,6 @@
 ghost use Rattle.std.specs.Prelude.{◌≡◌, ◌≤◌, ◌<◌, ◌+◌, ◌^◌, ◌++◌, ℕ, List, [], length, drop, Ok, IfOk, OnErr, IsErrOf};
 ghost use Rattle.std.specs.Io.KnownBytes.{Consumes, IsAtEnd};
-ghost use Rattle.dax_script.specs.Causes.{Rose};
+ghost use Rattle.plain_file.specs.Counts.{Rose};
 ghost use Rattle.daxwire.specs.Courses.{PendingView, chunk};
 
 use dax_script::Source;

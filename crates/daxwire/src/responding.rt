@@ -1,5 +1,5 @@
 ghost use Rattle.std.specs.Prelude.{◌≡◌, Option, ◌≤◌, ◌<◌, ◌+◌, ◌^◌, ◌++◌, ◌∷◌, ℕ, List, [], true, false, length, take, drop, Ok, IfOk, IfErr, OnOk, OnErr};
-ghost use Rattle.dax_script.specs.Causes.{Rose};
+ghost use Rattle.plain_file.specs.Counts.{Rose};
 ghost use Rattle.daxwire.specs.Frames.{Frame, front_at, front_len, is_longer, limit, IsBounded};
 ghost use Rattle.daxwire.specs.Courses.{PendingView, Answers, Ends, IsUndecided, Went, Writes, Took, chunk, course_from, open_end, status_of};
 

@@ -1,6 +1,7 @@
 ghost use Rattle.std.specs.Prelude.{◌≡◌, ◌≢◌, ◌≤◌, ◌<◌, ◌+◌, ℕ, List, [], length, Some, IfOk, IfSome, OnOk};
 ghost use Rattle.std.specs.Io.KnownBytes.{Appends, Keeps, IsAtEnd};
-ghost use Rattle.dax_script.specs.Causes.{Rose, AppendsPart, TakesAtMost, buffer};
+ghost use Rattle.plain_file.specs.Counts.{Rose};
+ghost use Rattle.dax_script.specs.Causes.{AppendsPart, TakesAtMost, buffer};
 ghost use Rattle.dax_script.specs.declared.statuses.Status.{Status};
 ghost use Rattle.daxwire.specs.Frames.{limit};
 ghost use Rattle.daxwire.specs.Courses.{Writes};

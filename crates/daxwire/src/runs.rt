@@ -1,6 +1,7 @@
 ghost use Rattle.std.specs.Prelude.{◌≡◌, ◌≢◌, ◌≤◌, ◌+◌, ℕ, List, None, Some, IfSome};
 ghost use Rattle.std.specs.Io.KnownBytes.{Appends, Consumes, IsAtEnd};
-ghost use Rattle.dax_script.specs.Causes.{Rose, AppendsFront, AppendsPart, TakesAtMost};
+ghost use Rattle.plain_file.specs.Counts.{Rose};
+ghost use Rattle.dax_script.specs.Causes.{AppendsFront, AppendsPart, TakesAtMost};
 ghost use Rattle.dax_script.specs.declared.statuses.Status.{Status};
 ghost use Rattle.daxwire.specs.declared.frames.End.{End};
 ghost use Rattle.daxwire.specs.Frames.{limit};
