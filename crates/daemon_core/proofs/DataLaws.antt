@@ -1,5 +1,5 @@
 -- The device that stays as it is: what it carries out is what the whole device does, and what it asks of its boards.
-use Rattle.std.proofs.Common.{◌≡◌, ◌≢◌, ◌⊎◌, ◌∙◌, ap, subst, sym, refl, arith, ℕ, ◌-◌, ◌<◌, ◌==◌, eqb, cond, Bool, true, false, true≢false, not, ◌&&◌, ◌||◌, ◌*◌, nat_lt, nat_le, List, [], length, drop, take, ◌≤◌, Option, Some, None, option_map, Result, Ok, Err, OnOk, OnErr, inl, inr, if◌then◌else◌}
+use Rattle.std.proofs.Common.{◌≡◌, ◌≢◌, ◌⊎◌, ◌∙◌, ap, subst, sym, refl, arith, ℕ, ◌-◌, ◌<◌, ◌==◌, cond, Bool, true, false, true≢false, not, ◌&&◌, ◌||◌, ◌*◌, nat_lt, nat_le, List, [], length, drop, take, ◌≤◌, Option, Some, None, option_map, Result, Ok, Err, OnOk, OnErr, inl, inr, if◌then◌else◌}
 use Rattle.std.proofs.lemmas.Bool.{cases_Bool, eqb-true, eq-eqb, ne_eqb, lt-ltb, le-ltb, or_from, not_from_true, not_from_false}
 use Rattle.std.specs.Prelude.{is_some}
 use Rattle.std.proofs.lemmas.Grind.{common_steps}
@@ -28,7 +28,7 @@ use Rattle.fuse_wire.specs.Inits.{init_in_of}
 use Rattle.fuse_wire.specs.Forgets.{forget_in_of, forget_one_at}
 use Rattle.fuse_wire.specs.Mappings.{setup_in_of, remove_one_at}
 use Rattle.page_map.specs.Board.{MapView}
-use Rattle.plain_file.specs.Board.{BoardView, IsReady, may_apply}
+use Rattle.plain_file.specs.Board.{BoardView, may_apply}
 use Rattle.plain_file.specs.declared.operations.Answer.{Answer}
 use Rattle.plain_file.specs.declared.refusals.Memory.{Memory}
 use Rattle.plain_file.specs.declared.operations.Op.{Op}
@@ -37,7 +37,7 @@ use Rattle.daemon_core.specs.Checks.{Outcome, is_known, refuse}
 use Rattle.daemon_core.specs.Requests.{done, applies, attr_of, resizes, getattr, setattr, sync, read, write, setup, remove, answered, is_init, is_forget, served}
 use Rattle.daemon_core.specs.Steps.{Step, is_forget_number, header_at, judged_message, judged, replied, forgot, device_step}
 use Rattle.daemon_core.specs.Promises.{CanServe, IsServable, NamesFiles, world}
-use Rattle.daemon_core.specs.DataSteps.{is_data, is_on_file, is_file_body, is_body_on_file, file_of, named_in, file_in, named_file, HasFile, CanServeData, CanStepData, data_judged_message, data_judged, data_step}
+use Rattle.daemon_core.specs.DataSteps.{is_data, is_on_file, is_file_body, is_body_on_file, file_of, named_in, file_in, named_file, CanServeData, CanStepData, data_judged_message, data_judged, data_step}
 use Rattle.daemon_core.proofs.Servable.{Serves, refuse_keeps, judged_keeps, step_keeps, not_false}
 use Rattle.daemon_core.proofs.Mapped.{AreNamed, Names, refuse_names, judged_names, step_names}
 

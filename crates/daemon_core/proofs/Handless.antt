@@ -1,5 +1,5 @@
 -- The boards of the tests, which have nothing in hand, are boards of a device.
-use Rattle.std.proofs.Common.{◌≡◌, sym, ap, refl, arith, ◌<◌, ◌≤◌, ℕ, zero, suc, true, IsTrue, List, length, get_or, take, drop, replicate, Option, None, Some, [], ◌∷◌, ◌∙◌, ◌⊎◌, inl, inr, false}
+use Rattle.std.proofs.Common.{◌≡◌, sym, ap, refl, arith, ◌<◌, ℕ, zero, suc, List, length, get_or, take, drop, replicate, Option, None, [], ◌∙◌, ◌⊎◌, inl, inr, false}
 use Rattle.std.proofs.lemmas.Grind.{common_steps}
 use Rattle.std.proofs.lemmas.List.{length-replicate}
 use Rattle.page_map.specs.Board.{MapView}

@@ -2,6 +2,8 @@ pub mod Allowed
 pub mod Examples
 pub mod OpenHandles
 pub mod Receiving
+pub mod Replying
+pub mod Answering
 pub mod Unlooks
 pub mod Clears
 pub mod Numbering

@@ -1,5 +1,5 @@
 -- Whatever is asked, the window maps files that were made, and no others.
-use Rattle.std.proofs.Common.{◌≡◌, ◌∙◌, ap, sym, refl, arith, ◌<◌, ◌≤◌, ℕ, zero, suc, ◌+◌, ◌-◌, ◌*◌, ◌==◌, Bool, true, false, List, [], ◌∷◌, ◌++◌, length, map, set, length-set, get_or, replicate, Option, Some, None, unwrap_or, Result, Ok, Err, inl, inr, not, nat_lt, ◌||◌, ◌&&◌, ◌^◌, if◌then◌else◌}
+use Rattle.std.proofs.Common.{◌≡◌, ◌∙◌, ap, sym, refl, arith, ◌<◌, ◌≤◌, ℕ, zero, suc, ◌+◌, ◌-◌, ◌*◌, ◌==◌, Bool, true, false, List, [], ◌∷◌, length, length-set, get_or, replicate, Option, Some, None, unwrap_or, Result, Ok, Err, inl, inr, not, nat_lt, ◌||◌, ◌&&◌, ◌^◌, if◌then◌else◌}
 use Rattle.std.proofs.lemmas.Bool.{cases_Bool}
 use Rattle.std.proofs.lemmas.Grind.{common_steps}
 use Rattle.std.proofs.lemmas.List.{length-map, length-append}
@@ -12,23 +12,23 @@ use Rattle.fuse_codec.specs.declared.messages.Request.TheVariants as asks
 use Rattle.fuse_codec.specs.declared.replies.Reply.{Reply}
 use Rattle.fuse_codec.specs.declared.replies.Reply.TheVariants as gives
 use Rattle.fuse_wire.specs.declared.errno.Errno.{Errno}
-use Rattle.fuse_wire.specs.declared.errno.Errno.TheVariants.{ENOENT, EBADF, EBUSY, EISDIR, EINVAL, EFBIG, EMFILE, EPROTO}
+use Rattle.fuse_wire.specs.declared.errno.Errno.TheVariants.{ENOENT, EBADF, EBUSY, EISDIR, EINVAL, EFBIG, EPROTO}
 use Rattle.fuse_wire.specs.declared.inits.InitIn.{InitIn}
 use Rattle.fuse_wire.specs.declared.mappings.RemoveOne.{RemoveOne}
 use Rattle.fuse_wire.specs.declared.mappings.SetupIn.{SetupIn}
 use Rattle.plain_file.specs.Board.{file_at, file_answer, may_apply, applied}
 use Rattle.plain_file.specs.declared.operations.Answer.{Answer}
 use Rattle.plain_file.specs.declared.operations.Op.{Op}
-use Rattle.page_map.specs.Board.{MapView, mapped_at, wiped, painted, is_whole}
+use Rattle.page_map.specs.Board.{MapView, wiped, painted, is_whole}
 use Rattle.page_map.specs.Window.{is_within, page_of}
 use Rattle.page_map.specs.Plain.{new_map}
 use Rattle.page_map.specs.declared.pages.Page.{Page}
 use Rattle.page_map.specs.declared.pages.Span.{Span}
 use Rattle.page_map.proofs.Showing.{held_at-painted, held_at-painted_other, held_at-wiped, held_at-wiped_other, mapped_at-plain}
-use Rattle.daemon_core.specs.State.{State, World, is_made, grants, made_at, counted_up, without_name, unlooked, begun, with_made, with_new_file, new_file, with_open, without_open, looked_up, cleared_window, all_cleared}
+use Rattle.daemon_core.specs.State.{State, World, is_made, grants, made_at, counted_up, without_name, unlooked, begun, with_new_file, new_file, cleared_window, all_cleared}
 use Rattle.daemon_core.specs.Entries.{session_flags, init_out_with}
-use Rattle.daemon_core.specs.Checks.{Outcome, is_known, is_handle, is_past, may_open, refuse, if_may_open}
-use Rattle.daemon_core.specs.Requests.{done, applies, attr_of, opens, closes, found, unlinked, opens_entry, makes_entry, created, resizes, forgotten, all_forgotten, span_of, is_bad_setup, init, destroy, getattr, setattr, open_file, open_dir, release, release_dir, sync, fallocate, read, write, lookup, unlink, create, forget, batch_forget, read_dir, setup, remove, answered, served}
+use Rattle.daemon_core.specs.Checks.{Outcome, is_known, is_handle, is_past, refuse}
+use Rattle.daemon_core.specs.Requests.{done, applies, attr_of, opens, closes, found, unlinked, opens_entry, makes_entry, created, resizes, span_of, is_bad_setup, init, destroy, getattr, setattr, open_file, open_dir, release, release_dir, sync, fallocate, read, write, lookup, unlink, create, forget, batch_forget, read_dir, setup, remove, answered, served}
 use Rattle.daemon_core.specs.Steps.{Step, judged_message, judged, forgot, replied, header_at, is_forget_number, device_step}
 use Rattle.daemon_core.specs.Promises.{IsServable, NamesFiles}
 use Rattle.daemon_core.proofs.Clears.{first_of_both, rest_of_both, wiped_len, whole_window}

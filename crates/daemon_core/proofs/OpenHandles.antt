@@ -1,7 +1,7 @@
 -- What a client's requests give, each in any of its spellings, over any boards: the beginning of a session, a file's
 -- entry, a new handle, and the reads and writes of an open file.
-use Rattle.std.proofs.Common.{◌≡◌, ◌∙◌, ap, sym, refl, subst, arith, ℕ, ◌+◌, ◌-◌, ◌<◌, ◌≤◌, ◌^◌, ◌==◌, Bool, true, false, not, nat_lt, eqb, ◌||◌, ◌&&◌, List, [], ◌∷◌, ◌++◌, length, length-take, take, drop, Some, Ok, is_some, if◌then◌else◌, length-append}
-use Rattle.std.specs.Prelude.{unwrap_or, pos}
+use Rattle.std.proofs.Common.{◌≡◌, ◌∙◌, ap, refl, arith, ℕ, ◌+◌, ◌-◌, ◌<◌, ◌≤◌, ◌^◌, ◌==◌, Bool, true, false, not, nat_lt, eqb, ◌||◌, ◌&&◌, List, [], ◌∷◌, ◌++◌, length, length-take, take, drop, Some, is_some, if◌then◌else◌, length-append}
+use Rattle.std.specs.Prelude.{unwrap_or}
 use Rattle.std.specs.List.{list_any}
 use Rattle.std.proofs.lemmas.Bool.{eq-eqb, le-ltb, le-leb}
 use Rattle.std.proofs.lemmas.Nat.{and_le_r}
@@ -33,7 +33,7 @@ use Rattle.fuse_codec.proofs.RequestLaws.{message_again}
 use Rattle.plain_file.specs.declared.operations.Op.TheVariants as ops
 use Rattle.plain_file.specs.Board.{file_at, file_answer, bytes_now, size_of, applied}
 use Rattle.plain_file.specs.File.{answer, max_file}
-use Rattle.daemon_core.specs.State.{State, World, no_made, is_made, made_at, has_name, named, is_dir, is_open, begun, looked_up, with_open, next_opened}
+use Rattle.daemon_core.specs.State.{State, World, no_made, is_made, made_at, has_name, named, is_dir, begun, looked_up, with_open, next_opened}
 use Rattle.daemon_core.specs.declared.tables.Opened.{Opened}
 use Rattle.daemon_core.specs.Checks.{Outcome, is_known, is_handle, may_open}
 use Rattle.daemon_core.specs.Entries.{session_flags, init_out_with, file_attr, entry_of, open_out_of}
@@ -56,7 +56,7 @@ header_at-spelled m bytes s =
 pub length-spelled : (m : Message) (bytes : List ℕ) → Spells m bytes → 40 ≤ length bytes
 length-spelled m bytes s = omega (arith, ap length s.whole, length-append s.header s.body, in_header_law.len (header_of (length bytes) m) s.header s.header_spelled)
 
-forget_number : (q : Request) → is_forget_number (number (kind_of q)) ≡ is_forget q
+pub forget_number : (q : Request) → is_forget_number (number (kind_of q)) ≡ is_forget q
 unfolding number kind_of is_forget
 forget_number (asks.Lookup name) = refl
 forget_number (asks.Forget n) = refl
@@ -80,7 +80,7 @@ forget_number (asks.Fallocate r) = refl
 forget_number (asks.Setup r) = refl
 forget_number (asks.Remove ones) = refl
 
-least_room : (form : ReplyForm) (size : ℕ) → 16 ≤ unwrap_or (form_room form size) 16
+pub least_room : (form : ReplyForm) (size : ℕ) → 16 ≤ unwrap_or (form_room form size) 16
 unfolding form_room
 least_room forms.Entry size = omega arith
 least_room forms.Attr size = omega arith
@@ -246,26 +246,3 @@ write_succeeds w node r bytes h small within =
       formed = refl;
       fits = (omega arith, (tt, tt));
     }
-
--- A READ of an open file in any spelling, with room for its bytes: its bytes below the file's end are answered, and
--- nothing changes but that the board has applied the read.
-pub device_step-read : (w : World) (m : Message) (r : ReadIn) (readable : List ℕ) (room : ℕ) → Spells m readable → m.body ≡ asks.Read r
-    → HasOpenFile w.state m.head.nodeid r.fh → r.size ≤ max_transfer → 16 + r.size ≤ room
-    → device_step w readable room ≡ (record w { files = applied w.files (m.head.nodeid - 2) (ops.Read r.offset r.size) }, clean_reply m.head.unique (gives.Bytes (bytes_read w m.head.nodeid r)))
-unfolding form_room reply_form kind_of asked
-device_step-read w m r readable room s is h small fits =
-    let node = m.head.nodeid in
-    let p = read_succeeds w node r h small in
-    let q = subst (λ (q : Request). Succeeds w node q (gives.Bytes (bytes_read w node r)) (record w { files = applied w.files (node - 2) (ops.Read r.offset r.size) })) (sym is) p in
-    device_step-succeeds w m _ _ readable room s q (rw is fits)
-
--- The same of a WRITE, whose size is answered.
-pub device_step-write : (w : World) (m : Message) (r : WriteIn) (bytes readable : List ℕ) (room : ℕ) → Spells m readable → m.body ≡ asks.Write r bytes
-    → HasOpenFile w.state m.head.nodeid r.fh → r.size ≤ max_transfer → r.offset + r.size ≤ max_file → 24 ≤ room
-    → device_step w readable room ≡ (record w { files = applied w.files (m.head.nodeid - 2) (ops.Write r.offset bytes) }, clean_reply m.head.unique (gives.Wrote (record { size = r.size })))
-unfolding form_room reply_form kind_of asked
-device_step-write w m r bytes readable room s is h small within fits =
-    let node = m.head.nodeid in
-    let p = write_succeeds w node r bytes h small within in
-    let q = subst (λ (q : Request). Succeeds w node q (gives.Wrote (record { size = r.size })) (record w { files = applied w.files (node - 2) (ops.Write r.offset bytes) })) (sym is) p in
-    device_step-succeeds w m _ _ readable room s q (rw is fits)

@@ -1,5 +1,5 @@
 -- What a client of the device rests on: an open file, and a request that succeeds.
-use Rattle.std.specs.Prelude.{◌≡◌, ℕ, Bool, true, false, ◌||◌, Ok}
+use Rattle.std.specs.Prelude.{◌≡◌, ℕ, true, false, ◌||◌, Ok}
 use Rattle.fuse_wire.specs.Layout.{FitsParts}
 use Rattle.fuse_codec.specs.Grammar.{kind_of}
 use Rattle.fuse_codec.specs.Opcodes.{reply_form}
@@ -24,7 +24,3 @@ pub record Succeeds (w : World) (node : ℕ) (q : Request) (reply : Reply) (new 
   pub good : is_reply reply ≡ true
   pub formed : HasForm (reply_form (kind_of q)) reply
   pub fits : FitsParts (reply_parts reply)
-
--- there is a reply with which it succeeds
-abbrev pub CanSucceed : World → ℕ → Request → Type 0
-CanSucceed w node q = (reply : Reply) × (new : World) × Succeeds w node q reply new

@@ -1,5 +1,5 @@
 -- The forms of the device's contracts, and what they ask of the boards.
-use Rattle.std.specs.Prelude.{◌≡◌, ℕ, ◌-◌, ◌*◌, ◌<◌, ◌≤◌, true, List, length, Option, Some, Result, Ok, Err}
+use Rattle.std.specs.Prelude.{◌≡◌, ℕ, ◌-◌, ◌*◌, ◌<◌, ◌≤◌, true, List, length, Some, Result, Ok, Err}
 use Rattle.fuse_codec.specs.Replies.{is_reply, reply_len}
 use Rattle.fuse_codec.specs.Reading.{message_of}
 use Rattle.fuse_codec.specs.declared.messages.Message.{Message}

@@ -1,2 +1,1 @@
-pub mod StepRoom
 pub mod Carrying

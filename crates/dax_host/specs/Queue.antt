@@ -1,5 +1,5 @@
 -- A queue with both its sides over one memory, and how far a request has come through it.
-use Rattle.std.specs.Prelude.{◌≡◌, ℕ, List, length, Some, None}
+use Rattle.std.specs.Prelude.{◌≡◌, ℕ, Some, None}
 use Rattle.vring.specs.declared.chains.Chain.{Chain}
 use Rattle.vring.specs.Chain.{ChainLiesIn}
 use Rattle.vring.specs.Driver.{DriverView, IsQueueSize, driver_layout, offered_room}

@@ -6,7 +6,7 @@
 //! writes is what the other reads is a law of the queue.
 //!
 //! `specs/Queue` says how far a request has come through the queue, and `specs/Solo` what the wire
-//! means. `proofs/StepRoom` shows that an answer of the device fits the room that it was given.
+//! means.
 #![tactic(auto)]
 
 mod queue;

@@ -53,7 +53,7 @@ impl Queue {
     }
 
     // Carries a request to the daemon and the answer back.
-    #[tactic(auto, using(crate::proofs::StepRoom::device_step_fits))]
+    #[tactic(auto, using(daemon_core::proofs::Answering::device_step_fits))]
     pub(crate) fn carry<F: FileBoard, M: MapBoard>(
         &mut self,
         alloc: Global,

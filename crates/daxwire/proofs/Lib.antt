@@ -2,7 +2,6 @@ pub mod Answering
 pub mod Bounds
 pub mod CourseLaws
 pub mod DeviceAnswers
-pub mod DeviceReplies
 pub mod Following
 pub mod FrameSteps
 pub mod HeaderLaws

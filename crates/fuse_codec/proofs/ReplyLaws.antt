@@ -107,7 +107,7 @@ negated error below within = grind (arith, ints)
 zero_between : (error : ℤ) → int_lt error (pos 0) ≡ false → int_lt (pos 0) error ≡ false → error ≡ pos 0
 zero_between error not_below not_above = grind (arith, ints)
 
-below_zero : (number : ℤ) → is_error_number number ≡ true → int_lt (neg_ℤ number) (pos 0) ≡ true
+pub below_zero : (number : ℤ) → is_error_number number ≡ true → int_lt (neg_ℤ number) (pos 0) ≡ true
 below_zero number h = grind (arith, ints)
 
 body_found : (form : ReplyForm) (error : ℤ) (bytes : List ℕ) (reply : Reply) → IsBytes bytes → int_lt (pos 0) error ≡ false → int_lt error (neg_ℤ (pos 4095)) ≡ false → reply_body_of form error bytes ≡ Some reply → IsBody form error reply bytes
@@ -170,17 +170,17 @@ reply_found form bytes answer fits e =
     subst (λ (x : ℕ × Reply). SpellsReply form x.0 x.1 bytes) got.2 (record { header = take 16 bytes; body = body; whole = sym (take-append-drop 16 bytes); bounded = b.bounded; formed = b.formed; header_spelled = header; body_spelled = b.parts })
 
 -- an error field that a reply has
-fields : (reply : Reply) → is_reply reply ≡ true → (int_lt (pos 0) (error_of reply) || int_lt (error_of reply) (neg_ℤ (pos 4095))) ≡ false
+pub error_within : (reply : Reply) → is_reply reply ≡ true → (int_lt (pos 0) (error_of reply) || int_lt (error_of reply) (neg_ℤ (pos 4095))) ≡ false
 unfolding is_reply error_of
-fields (replies.Error number) h = grind (arith, ints)
-fields (replies.Entry r) h = refl
-fields (replies.Attr r) h = refl
-fields (replies.Opened r) h = refl
-fields (replies.Created entry opened) h = refl
-fields (replies.Bytes bytes) h = refl
-fields (replies.Wrote r) h = refl
-fields (replies.Init r) h = refl
-fields replies.Done h = refl
+error_within (replies.Error number) h = grind (arith, ints)
+error_within (replies.Entry r) h = refl
+error_within (replies.Attr r) h = refl
+error_within (replies.Opened r) h = refl
+error_within (replies.Created entry opened) h = refl
+error_within (replies.Bytes bytes) h = refl
+error_within (replies.Wrote r) h = refl
+error_within (replies.Init r) h = refl
+error_within replies.Done h = refl
 
 -- what is spelled is read
 pub reply_again : (form : ReplyForm) (unique : ℕ) (reply : Reply) (bytes : List ℕ) → SpellsReply form unique reply bytes → reply_of form bytes ≡ Ok (unique, reply)
@@ -194,7 +194,7 @@ reply_again form unique reply bytes s =
     let read = cond_some (eqb (length s.header) 16) (out_header_at s.header) h (out_header_law.again h s.header s.header_spelled) in
     let long : ltb had 16 ≡ false = le-ltb _ _ (omega (arith, ap length s.whole, length-append s.header s.body, len)) in
     let header : out_header_at (take 16 bytes) ≡ h = ap out_header_at front ∙ read.1 in
-    let after : reply_after form h had s.body ≡ Ok (unique, reply) = rw (eq-eqb had had refl, fields reply s.bounded, body_again form reply s.body s.bounded s.formed s.body_spelled) refl in
+    let after : reply_after form h had s.body ≡ Ok (unique, reply) = rw (eq-eqb had had refl, error_within reply s.bounded, body_again form reply s.body s.bounded s.formed s.body_spelled) refl in
     rw (long, back) (subst (λ (x : OutHeader). reply_after form x had s.body ≡ Ok (unique, reply)) (sym header) after)
 
 -- ---- what decoding returned

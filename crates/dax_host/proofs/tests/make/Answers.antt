@@ -6,6 +6,21 @@ use Rattle.dax_host.proofs.tests.make.Goals as goal
 pub init-requires : goal.init-requires
 init-requires c = record { boards = λ _. servable_serves _ _ _ _ c.requires }
 
+pub lookup-requires : goal.lookup-requires
+lookup-requires c = record { boards = λ _. servable_serves _ _ _ _ c.requires }
+
+pub setattr_size-requires : goal.setattr_size-requires
+setattr_size-requires c = record { boards = λ _. servable_serves _ _ _ _ c.requires }
+
+pub getattr-requires : goal.getattr-requires
+getattr-requires c = record { boards = λ _. servable_serves _ _ _ _ c.requires }
+
+pub remove-requires : goal.remove-requires
+remove-requires c = record { boards = λ _. servable_serves _ _ _ _ c.requires }
+
+pub release-requires : goal.release-requires
+release-requires c = record { boards = λ _. servable_serves _ _ _ _ c.requires }
+
 pub open_file-requires : goal.open_file-requires
 open_file-requires c = record { boards = λ _. servable_serves _ _ _ _ c.requires }
 
@@ -26,6 +41,21 @@ read-requires-in-ReadClosed-clause-boards c = λ _. servable_serves _ _ _ _ c.re
 
 pub returns-in-Init : goal.returns-in-Init
 returns-in-Init c = IsServable-answer _ _ _ _ _ _ _ _ _ c.init.ensures.answer refl c.requires
+
+pub returns-in-Lookup : goal.returns-in-Lookup
+returns-in-Lookup c = IsServable-answer _ _ _ _ _ _ _ _ _ c.lookup.ensures.answer refl c.requires
+
+pub returns-in-SetattrSize : goal.returns-in-SetattrSize
+returns-in-SetattrSize c = IsServable-answer _ _ _ _ _ _ _ _ _ c.setattr_size.ensures.answer refl c.requires
+
+pub returns-in-Getattr : goal.returns-in-Getattr
+returns-in-Getattr c = IsServable-answer _ _ _ _ _ _ _ _ _ c.getattr.ensures.answer refl c.requires
+
+pub returns-in-Remove : goal.returns-in-Remove
+returns-in-Remove c = IsServable-answer _ _ _ _ _ _ _ _ _ c.remove.ensures.answer refl c.requires
+
+pub returns-in-Release : goal.returns-in-Release
+returns-in-Release c = IsServable-answer _ _ _ _ _ _ _ _ _ c.release.ensures.answer refl c.requires
 
 pub returns-in-OpenFile : goal.returns-in-OpenFile
 returns-in-OpenFile c = IsServable-answer _ _ _ _ _ _ _ _ _ c.open_file.ensures.answer refl c.requires

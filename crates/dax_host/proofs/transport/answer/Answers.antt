@@ -1,4 +1,4 @@
-use Rattle.std.proofs.Common.{◌≡◌, ◌∙◌, ap, sym, subst, arith, ◌≤◌, ℕ, List, length}
+use Rattle.std.proofs.Common.{◌≡◌, ◌∙◌, ap, subst, arith, ◌≤◌, ℕ, List}
 use Rattle.std.specs.Prelude.{IfOk}
 use Rattle.vring.specs.Driver.{DriverView, written_in}
 use Rattle.vring.specs.Pieces.{scattered}

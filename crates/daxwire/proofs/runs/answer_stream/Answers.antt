@@ -1,4 +1,4 @@
-use Rattle.std.proofs.Common.{◌≡◌, arith, ap, refl, Err, subst, List, [], ◌++◌, Option, ℕ}
+use Rattle.std.proofs.Common.{arith, ap, refl, Err, subst, List, [], ◌++◌, Option, ℕ}
 use Rattle.std.specs.Prelude.{IfSome}
 use Rattle.daxwire.specs.declared.frames.End.TheVariants as ends
 use Rattle.daxwire.specs.declared.frames.Reason.TheVariants as reasons

@@ -2,7 +2,8 @@ use Rattle.std.proofs.Common.{ap, arith, length, List, ℕ, subst, sym}
 use Rattle.daemon_core.specs.Promises.{world}
 use Rattle.daemon_core.proofs.Servable.{servable_steps}
 use Rattle.daxwire.specs.RingText.{IsAnswer}
-use Rattle.daxwire.proofs.DeviceAnswers.{answer_fits}
+use Rattle.daemon_core.proofs.Answering.{device_step_fits}
+use Rattle.daxwire.proofs.DeviceAnswers.{answer_has_line}
 use Rattle.daxwire.proofs.Serving.{serving_after_chain}
 use Rattle.daxwire.proofs.devices.Device.reply.Goals as goal
 
@@ -21,10 +22,9 @@ invariant_of-self-2 c =
 
 pub returns-clause-answer : goal.returns-clause-answer
 returns-clause-answer c =
-    let h = answer_fits (world c.self.inside.daemon c.self.inside.files c.self.inside.map) c.args.readable.now c.args.room (λ i. omega (arith, c.type_inv.readable i)) c.requires in
-    subst (λ (bytes : List ℕ). IsAnswer c.args.readable.now bytes) (sym c.in_ok-reply.ensures.reply) h.is
+    let h = answer_has_line (world c.self.inside.daemon c.self.inside.files c.self.inside.map) c.args.readable.now c.args.room (λ i. omega (arith, c.type_inv.readable i)) c.requires in
+    subst (λ (bytes : List ℕ). IsAnswer c.args.readable.now bytes) (sym c.in_ok-reply.ensures.reply) h
 
 pub returns-clause-fits : goal.returns-clause-fits
 returns-clause-fits c =
-    let h = answer_fits (world c.self.inside.daemon c.self.inside.files c.self.inside.map) c.args.readable.now c.args.room (λ i. omega (arith, c.type_inv.readable i)) c.requires in
-    omega (arith, ap length c.in_ok-reply.ensures.reply, h.fits)
+    omega (arith, ap length c.in_ok-reply.ensures.reply, device_step_fits (world c.self.inside.daemon c.self.inside.files c.self.inside.map) c.args.readable.now c.args.room)
