@@ -1,5 +1,5 @@
 -- What decoding a reply says of it.
-use Rattle.std.proofs.Common.{◌≡◌, ◌∙◌, sym, refl, ap, subst, ℕ, List, Option, Some, None, Result, Ok, Err}
+use Rattle.std.proofs.Common.{◌≡◌, ◌∙◌, sym, ap, subst, ℕ, List, Option, Some, None, Result, Ok, Err}
 use Rattle.std.specs.Prelude.{IsSome, IfSome, IfOk}
 use Rattle.fuse_codec.specs.Opcodes.{number, reply_form}
 use Rattle.fuse_codec.specs.Replies.{answer_form, answer_to, answered, form_of, HasForm, SpellsAnswer}

@@ -1,3 +1,4 @@
 pub mod StepKeeps
 pub mod Judging
+pub mod Hearing
 pub mod Serving

@@ -1,5 +1,5 @@
 -- Wires that hand requests to a daemon, and boards over which any request can be asked.
-use Rattle.std.proofs.Common.{◌≡◌, ◌∙◌, sym, refl, ap, subst, ℕ, true, false, true≢false, List, Result, Ok, Err, OnOk, OnErr, inl, inr}
+use Rattle.std.proofs.Common.{◌≡◌, ◌∙◌, sym, ap, subst, ℕ, true, true≢false, List, Result, Ok, Err, OnOk, OnErr, inl, inr}
 use Rattle.plain_file.specs.Board.{BoardView}
 use Rattle.plain_file.specs.declared.refusals.Memory.{Memory}
 use Rattle.page_map.specs.Board.{MapView}
@@ -42,6 +42,6 @@ pub IsServable-answer : {S V : Type 0} (wire : S → WireView) (gives : S → Bo
     → Answers wire gives says before old m result after new → (wire before).honest ≡ true → IsServable (world_at (wire before) old) → IsServable (world_at (wire after) new)
 IsServable-answer wire gives says before old m (Ok v) after new (bytes, received, judged) honest h = servable_step (world_at (wire before) old) (world_at (wire after) new) (sent m) bytes (received.step honest) h
 IsServable-answer wire gives says before old m (Err (refusals.Errno number)) after new (bytes, received, judged) honest h = servable_step (world_at (wire before) old) (world_at (wire after) new) (sent m) bytes (received.step honest) h
-IsServable-answer wire gives says before old m (Err (refusals.BadReply bad)) after new (bytes, received, judged) honest h = servable_step (world_at (wire before) old) (world_at (wire after) new) (sent m) bytes (received.step honest) h
+IsServable-answer wire gives says before old m (Err (refusals.BadReply bad)) after new (not_honest, received) honest h = absurd (true≢false (sym honest ∙ not_honest))
 IsServable-answer wire gives says before old m (Err refusals.WireFault) after new (rose, not_honest) honest h = absurd (true≢false (sym honest ∙ not_honest))
 IsServable-answer wire gives says before old m (Err refusals.Memory) after new step honest h = servable_or_not (world_at (wire before) old) (world_at (wire after) new) (sent m) (step honest) h

@@ -1,5 +1,5 @@
 -- A step of the device keeps what boards keep.
-use Rattle.std.proofs.Common.{◌≡◌, ◌∙◌, sym, refl, ap, subst, arith, ◌<◌, ℕ, ◌-◌, ◌*◌, ◌==◌, Bool, true, false, true≢false, List, [], ◌∷◌, ◌++◌, length, get_or, set, length-set, Option, Some, None, Result, Ok, Err, inl, inr, not, nat_lt, ◌||◌, if◌then◌else◌}
+use Rattle.std.proofs.Common.{◌≡◌, ◌∙◌, sym, refl, arith, ◌<◌, ℕ, ◌-◌, ◌*◌, ◌==◌, Bool, true, false, true≢false, List, [], ◌∷◌, length, length-set, Option, Some, None, Result, Ok, Err, inl, inr, not, nat_lt, if◌then◌else◌}
 use Rattle.std.proofs.lemmas.Bool.{cases_eq}
 use Rattle.std.proofs.lemmas.List.{append-nil}
 use Rattle.std.specs.List.{list_all}
@@ -21,8 +21,8 @@ use Rattle.plain_file.specs.declared.operations.Op.{Op}
 use Rattle.plain_file.proofs.OneFile.{file_at-with_file, file_at-with_other}
 use Rattle.page_map.specs.Board.{MapView, wiped, painted, is_whole}
 use Rattle.page_map.specs.declared.pages.Span.{Span}
-use Rattle.daemon_core.specs.State.{State, World, grants, cleared_window, all_cleared, ended, with_open, without_open}
-use Rattle.daemon_core.specs.Checks.{Outcome, refuse, may_open, if_may_open}
+use Rattle.daemon_core.specs.State.{State, World, grants, cleared_window, all_cleared, ended}
+use Rattle.daemon_core.specs.Checks.{Outcome, refuse}
 use Rattle.daemon_core.specs.Requests.{done, applies, attr_of, opens, closes, found, unlinked, opens_entry, makes_entry, created, resizes, span_of, is_bad_setup, init, destroy, getattr, setattr, open_file, open_dir, release, release_dir, sync, fallocate, read, write, lookup, unlink, create, forget, batch_forget, read_dir, setup, remove, answered, served}
 use Rattle.daemon_core.specs.Steps.{Step, judged_message, judged, forgot, replied, header_at, is_forget_number, device_step}
 use Rattle.daemon_core.specs.Promises.{CanStep, world}

@@ -1,17 +1,19 @@
 -- What bytes say to a request, and what a driver answers by them.
-use Rattle.std.specs.Prelude.{◌≡◌, ℕ, ◌==◌, Bool, true, false, nat_lt, List, length, Option, Some, None, Result, Ok, Err, if◌then◌else◌}
+use Rattle.std.specs.Prelude.{◌≡◌, ℕ, ◌==◌, true, false, nat_lt, List, length, Option, Some, None, Result, Ok, Err, if◌then◌else◌}
 use Rattle.fuse_wire.specs.declared.opens.OpenOut.{OpenOut}
-use Rattle.fuse_codec.specs.Grammar.{kind_of}
+use Rattle.fuse_codec.specs.Grammar.{kind_of, clean_message, Spells}
 use Rattle.fuse_codec.specs.Opcodes.{reply_form}
 use Rattle.fuse_codec.specs.ReplyReading.{reply_of}
 use Rattle.fuse_codec.specs.declared.errors.BadReply.{BadReply}
 use Rattle.fuse_codec.specs.declared.messages.Message.{Message}
 use Rattle.fuse_codec.specs.declared.replies.Reply.{Reply}
 use Rattle.fuse_codec.specs.declared.replies.Reply.TheVariants as replies
+use Rattle.daemon_core.specs.State.{World}
 use Rattle.daemon_core.specs.Steps.{wanted_room}
 use Rattle.guest_wire.specs.declared.wires.WireRefusal.{WireRefusal}
 use Rattle.guest_wire.specs.declared.wires.WireRefusal.TheVariants as refusals
-use Rattle.guest_wire.specs.Wires.{WireView, Boards, Sent, world_at, Rose, IsStep, IsStepOrNot}
+use Rattle.plain_file.specs.Counts.{Rose}
+use Rattle.guest_wire.specs.Wires.{WireView, Boards, Sent, world_at, IsStep, IsStepOrNot}
 use Rattle.guest_wire.specs.Requests.{sent}
 
 -- the reply, where it is to this number
@@ -33,15 +35,17 @@ Judges says reply bytes (Err (refusals.BadReply bad)) = (reply ≡ None) × (bad
 Judges says reply bytes (Err refusals.WireFault) = ⊥
 Judges says reply bytes (Err refusals.Memory) = ⊥
 
--- These bytes were received: they stand in what the wire gives for the message. Over an honest wire they are the device's step.
+-- These bytes were received: they stand in what the wire gives for the message, which its bytes spell. Over an honest wire they are the device's step.
 pub record Receives {S : Type 0} (wire : S → WireView) (gives : S → Boards → Sent → List ℕ → S → Boards → Type 0) (before : S) (old : Boards) (m : Message) (bytes : List ℕ) (after : S) (new : Boards) : Type 0 where
+  pub spelled : Spells m (clean_message m)
   pub given : gives before old (sent m) bytes after new
   pub step : (wire before).honest ≡ true → IsStep (world_at (wire before) old) (sent m) bytes (world_at (wire after) new)
 
--- What a call answers that sends one message: by the bytes that were received, but for a fault of the wire and want of memory.
+-- What a call answers that sends one message: by the bytes that were received, but for a fault of the wire and want of memory. An honest wire neither fails nor brings back bytes that are no reply.
 abbrev pub Answers : {S V : Type 0} → (S → WireView) → (S → Boards → Sent → List ℕ → S → Boards → Type 0) → (V → Reply → Type 0) → S → Boards → Message → Result V WireRefusal → S → Boards → Type 0
 Answers wire gives says before old m (Err refusals.WireFault) after new = Rose (wire before).faults (wire after).faults × ((wire before).honest ≡ false)
 Answers wire gives says before old m (Err refusals.Memory) after new = (wire before).honest ≡ true → IsStepOrNot (world_at (wire before) old) (sent m) (world_at (wire after) new)
+Answers wire gives says before old m (Err (refusals.BadReply bad)) after new = ((wire before).honest ≡ false) × ((bytes : List ℕ) × Receives wire gives before old m bytes after new × Judges says (heard m bytes) bytes (Err (refusals.BadReply bad)))
 Answers wire gives says before old m result after new = (bytes : List ℕ) × Receives wire gives before old m bytes after new × Judges says (heard m bytes) bytes result
 
 -- a handle was opened
@@ -66,3 +70,9 @@ abbrev pub IsSplit : Reply → Result Reply WireRefusal → Type 0
 IsSplit reply (Ok r) = r ≡ reply
 IsSplit reply (Err (refusals.Errno number)) = reply ≡ replies.Error number
 IsSplit reply (Err e) = ⊥
+
+-- What a call answers whose request succeeds with this reply, and leaves: a value that says the reply, and this device; or want of memory.
+abbrev pub Succeeded : {V : Type 0} → (V → Reply → Type 0) → Reply → World → Result V WireRefusal → World → Type 0
+Succeeded says reply wanted (Ok v) new = says v reply × (new ≡ wanted)
+Succeeded says reply wanted (Err refusals.Memory) new = Unit {0}
+Succeeded says reply wanted (Err e) new = ⊥

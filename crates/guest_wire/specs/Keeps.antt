@@ -1,7 +1,6 @@
 -- What boards keep, whatever is submitted over them.
 use Rattle.std.specs.Prelude.{◌≡◌, ℕ, ◌<◌, List, ◌++◌, length}
 use Rattle.plain_file.specs.Board.{FileView, BoardView, file_at}
-use Rattle.plain_file.specs.declared.operations.Entry.{Entry}
 use Rattle.page_map.specs.Board.{MapView}
 use Rattle.guest_wire.specs.Wires.{Boards}
 

@@ -1,6 +1,7 @@
 -- What a wire means, and what a submit may give and leave.
-use Rattle.std.specs.Prelude.{◌≡◌, ℕ, ◌+◌, ◌-◌, ◌^◌, ◌≤◌, min, Bool, true, List, Option, Result, Ok, Err, ◌⊎◌}
+use Rattle.std.specs.Prelude.{◌≡◌, ℕ, ◌≤◌, Bool, true, List, Option, Result, Ok, Err, ◌⊎◌}
 use Rattle.plain_file.specs.Board.{BoardView}
+use Rattle.plain_file.specs.Counts.{Rose}
 use Rattle.page_map.specs.Board.{MapView}
 use Rattle.daemon_core.specs.State.{State, World}
 use Rattle.daemon_core.specs.Steps.{device_step}
@@ -40,10 +41,6 @@ sending bytes room = record { bytes = bytes; room = room }
 -- the daemon of a wire with its boards
 abbrev pub world_at : WireView → Boards → World
 world_at w b = world w.state b.files b.map
-
--- a count rose, or stands at its last value
-abbrev pub Rose : ℕ → ℕ → Type 0
-Rose before now = min (before + 1) (2 ^ 64 - 1) ≤ now
 
 -- the boards serve the request, where the wire is honest
 abbrev pub CanSubmit : WireView → Boards → List ℕ → Type 0

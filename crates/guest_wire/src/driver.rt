@@ -41,10 +41,10 @@ pub struct FileRef {
 /// A call answers a value exactly where the bytes received are a success of the request's form with its
 /// number, within the room that the request's reply wants. Of [`WireRefusal`], `Errno` comes exactly
 /// where they are an error's reply with its number, within the room; `BadReply` exactly where they
-/// don't decode, have another number, or are more than the room. `WireFault` comes only where the
-/// wire's count of faults rose or stands at its last value, and never over an honest wire. `Memory` comes
-/// where an allocation was refused: the request may have been carried out, over an honest wire as the
-/// device's step or not at all.
+/// don't decode, have another number, or are more than the room, and never over an honest wire.
+/// `WireFault` comes only where the wire's count of faults rose or stands at its last value, and never
+/// over an honest wire. `Memory` comes where an allocation was refused: the request may have been
+/// carried out, over an honest wire as the device's step or not at all.
 #[derive(Debug, Drop)]
 pub struct Driver<W> {
     /// What carries the requests.
