@@ -6,7 +6,7 @@ ghost use Rattle.daemon_core.specs.Promises.{IsServable, world};
 use super::*;
 use daemon_core::Daemon;
 use fuse_codec::Reply;
-use fuse_wire::{InitOut, OpenOut, WriteOut};
+use fuse_wire::{AttrOut, AttrRec, EntryOut, InitOut, OpenOut, WriteOut};
 use guest_wire::{Driver, FileRef, WireRefusal};
 use page_map::{Mode, Page, PageMap};
 use plain_file::{Blob, First, List, Memory, Name, PlainFiles};
@@ -47,13 +47,18 @@ const A: FileRef = FileRef { node: 2, fh: 1 };
 
 // A call of the client.
 #[derive(Drop)]
-enum Call {
+enum Call<'a> {
     Init,
+    Lookup(&'a Name),
     OpenFile,
     Write,
     Read,
     ReadClosed,
+    SetattrSize,
+    Getattr,
     Setup,
+    Remove,
+    Release,
     Destroy,
 }
 
@@ -70,6 +75,7 @@ fn make(
 {
     match call {
         Call::Init => client.init(alloc, true, files, map).map(Reply::Init),
+        Call::Lookup(name) => client.lookup(alloc, name, files, map).map(Reply::Entry),
         Call::OpenFile => client.open_file(alloc, 2, files, map).map(opened),
         Call::Write => client.write(alloc, A, 3, b"hello", files, map).map(wrote),
         Call::Read => client
@@ -78,7 +84,13 @@ fn make(
         Call::ReadClosed => client
             .read(alloc, FileRef { node: 2, fh: 9 }, 0, 1, files, map)
             .map(Reply::Bytes),
+        Call::SetattrSize => client
+            .setattr_size(alloc, A, 4, files, map)
+            .map(Reply::Attr),
+        Call::Getattr => client.getattr(alloc, A, files, map).map(Reply::Attr),
         Call::Setup => client.setup(alloc, 2, 1, 2, Mode::W, files, map).map(done),
+        Call::Remove => client.remove(alloc, 2, 2, files, map).map(done),
+        Call::Release => client.release(alloc, A, files, map).map(done),
         Call::Destroy => client.destroy(alloc, files, map).map(done),
     }
 }
@@ -93,6 +105,48 @@ fn wrote(size: u32) -> Reply {
 
 fn done(_: ()) -> Reply {
     Reply::Done
+}
+
+// The attributes of file "a" with so many bytes, in so many blocks.
+fn attributes(size: u64, blocks: u64) -> AttrRec {
+    AttrRec {
+        ino: 2,
+        size,
+        blocks,
+        atime: 0,
+        mtime: 0,
+        ctime: 0,
+        atimensec: 0,
+        mtimensec: 0,
+        ctimensec: 0,
+        mode: 0o100644,
+        nlink: 1,
+        uid: 0,
+        gid: 0,
+        rdev: 0,
+        blksize: 4096,
+        flags: 0,
+    }
+}
+
+fn four_bytes() -> Reply {
+    Reply::Attr(AttrOut {
+        attr_valid: 0,
+        attr_valid_nsec: 0,
+        attr: attributes(4, 1),
+    })
+}
+
+fn entry_reply() -> Reply {
+    Reply::Entry(EntryOut {
+        nodeid: 2,
+        generation: 0,
+        entry_valid: 0,
+        attr_valid: 0,
+        entry_valid_nsec: 0,
+        attr_valid_nsec: 0,
+        attr: attributes(0, 0),
+    })
 }
 
 fn init_reply() -> Reply {
@@ -111,13 +165,16 @@ fn init_reply() -> Reply {
     })
 }
 
-// A session through the queue, from before INIT to DESTROY: what each call answers, and what byte 5 of
-// range 2 is mapped to then.
+// Each call through the queue, from before INIT to DESTROY: what it answers, and what byte 5 of range
+// 2 is mapped to then.
 #[test]
 fn session(rt: HostRuntime) -> Result<(), Fail> {
     let alloc = rt.alloc();
     let (mut daemon, mut files, mut map) = device(alloc)?;
     let mut client = Driver::new(SoloWire::new(alloc, &mut daemon)?);
+    let Some(name) = Name::copy_of(alloc, b"a")? else {
+        panic!(&rt; "no name")
+    };
     let bytes = Blob::copy_of(alloc, b"\0\0\0hello")?;
     let page = Some(Page {
         node: 2,
@@ -127,6 +184,7 @@ fn session(rt: HostRuntime) -> Result<(), Fail> {
     let cases = [
         (Call::OpenFile, Err(WireRefusal::Errno { number: 5 }), None),
         (Call::Init, Ok(init_reply()), None),
+        (Call::Lookup(&name), Ok(entry_reply()), None),
         (Call::OpenFile, Ok(opened(1)), None),
         (Call::Write, Ok(wrote(5)), None),
         (Call::Read, Ok(Reply::Bytes(bytes)), None),
@@ -135,7 +193,12 @@ fn session(rt: HostRuntime) -> Result<(), Fail> {
             Err(WireRefusal::Errno { number: 9 }),
             None,
         ),
+        (Call::SetattrSize, Ok(four_bytes()), None),
+        (Call::Getattr, Ok(four_bytes()), None),
         (Call::Setup, Ok(Reply::Done), page),
+        (Call::Remove, Ok(Reply::Done), None),
+        (Call::Setup, Ok(Reply::Done), page),
+        (Call::Release, Ok(Reply::Done), page),
         (Call::Destroy, Ok(Reply::Done), None),
     ];
     for (call, wanted, page) in &cases {

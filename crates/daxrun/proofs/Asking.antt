@@ -1,136 +1,153 @@
--- What a client makes of its requests, each of which succeeds.
-use Rattle.std.proofs.Common.{◌≡◌, ◌∙◌, ap, sym, refl, subst, arith, ℕ, ◌+◌, ◌-◌, ◌<◌, ◌≤◌, ◌^◌, Bool, true, List, length, take, drop, Option, Some, Ok}
+-- What the requests of a run make of a live wire, each of which succeeds.
+use Rattle.std.proofs.Common.{◌≡◌, ◌∙◌, ap, refl, subst, arith, ℕ, ◌+◌, ◌-◌, ◌≤◌, ◌^◌, true, false, List, length, take, drop, Option, Some, None, Result, Ok, Err, if◌then◌else◌}
 use Rattle.plain_file.specs.declared.operations.Op.TheVariants as ops
 use Rattle.plain_file.specs.File.{max_file}
 use Rattle.plain_file.specs.Board.{file_at, bytes_now, size_of, applied}
-use Rattle.std.proofs.lemmas.Bool.{eq-eqb, le-leb}
-use Rattle.fuse_codec.specs.Grammar.{kind_of, is_bounded, Spells}
-use Rattle.fuse_codec.specs.Opcodes.{number}
-use Rattle.fuse_codec.specs.ReplyReading.{GivesReply}
-use Rattle.fuse_codec.specs.declared.messages.Request.{Request}
+use Rattle.fuse_codec.specs.Replies.{form_of}
 use Rattle.fuse_codec.specs.declared.messages.Request.TheVariants as asks
 use Rattle.fuse_codec.specs.declared.replies.Reply.{Reply}
-use Rattle.fuse_codec.specs.declared.replies.Reply.TheVariants as gives
+use Rattle.fuse_codec.specs.declared.replies.Reply.TheVariants as replies
 use Rattle.fuse_wire.specs.declared.attributes.EntryOut.{EntryOut}
+use Rattle.fuse_wire.specs.declared.inits.InitIn.{InitIn}
 use Rattle.fuse_wire.specs.declared.inits.InitOut.{InitOut}
-use Rattle.fuse_wire.specs.declared.opens.OpenIn.{OpenIn}
 use Rattle.fuse_wire.specs.declared.opens.OpenOut.{OpenOut}
-use Rattle.fuse_wire.specs.declared.records.WriteIn.{WriteIn}
 use Rattle.fuse_wire.specs.declared.records.WriteOut.{WriteOut}
 use Rattle.daemon_core.specs.State.{World, is_made, named, begun, looked_up, with_open}
 use Rattle.daemon_core.specs.Checks.{is_known, may_open}
 use Rattle.daemon_core.specs.Entries.{session_flags, init_out_with, entry_of, open_out_of}
-use Rattle.daemon_core.specs.Steps.{wanted_room, device_step}
-use Rattle.daemon_core.specs.OpenFiles.{HasOpenFile, Succeeds, CanSucceed}
-use Rattle.daemon_core.proofs.OpenHandles.{device_step-succeeds, is_file, init_succeeds, lookup_succeeds, open_succeeds, read_succeeds, write_succeeds}
-use Rattle.daemon_core.proofs.Receiving.{Receives, receives, Same, same_answer}
-use Rattle.daxrun.specs.Client.{message_for, init_for, read_for, write_for}
+use Rattle.daemon_core.specs.OpenFiles.{HasOpenFile}
+use Rattle.daemon_core.proofs.OpenHandles.{is_file, init_succeeds, lookup_succeeds, open_succeeds, read_succeeds, write_succeeds}
+use Rattle.guest_wire.specs.declared.driver.FileRef.{FileRef}
+use Rattle.guest_wire.specs.declared.wires.WireRefusal.{WireRefusal}
+use Rattle.guest_wire.specs.declared.wires.WireRefusal.TheVariants as refusals
+use Rattle.guest_wire.specs.Wires.{WireView, Boards, Sent, world_at, KeepsWire}
+use Rattle.guest_wire.specs.Requests.{message, init_request, open_request, read_request, write_request, write_at}
+use Rattle.guest_wire.specs.Answers.{Answers, Succeeded, SaysOpened, SaysWrote}
+use Rattle.guest_wire.proofs.Hearing.{succeeded}
+use Rattle.guest_wire.proofs.Serving.{IsServable-answer}
+use Rattle.daxrun.specs.Requests.{IsLive, IsDoneOrMemory}
+use Rattle.fuse_codec.specs.declared.messages.Message.{Message}
 
--- ---- any request
+-- ---- what comes of any of them
 
--- what comes back from a request that succeeds
-pub record Asked (w new : World) (unique node : ℕ) (q : Request) (bytes : List ℕ) : Type 0 where
-  pub reply : Reply
-  pub succeeds : Succeeds w node q reply new
-  pub received : Receives (number (kind_of q)) unique reply bytes
+-- a call's answer and what it leaves, where its request succeeds with this reply
+pub record Finishes {V : Type 0} (says : V → Reply → Type 0) (reply : Reply) (wanted : World) (result : Result V WireRefusal) (new : World) : Type 0 where
+  pub by : Succeeded says reply wanted result new
 
-pub asked : (w new : World) (unique node room : ℕ) (q : Request) (readable bytes : List ℕ) → CanSucceed w node q → Spells (message_for unique node q) readable → wanted_room q ≤ room → unique < 2 ^ 64
-    → bytes ≡ (device_step w readable room).1 → new ≡ (device_step w readable room).0 → Asked w new unique node q bytes
-asked w new unique node room q readable bytes (reply, after, h) s fits narrow is becomes =
-    let m = message_for unique node q in
-    let step = device_step-succeeds w m reply after readable room s h fits in
-    let same : new ≡ after = becomes ∙ ap (λ (t : World × List ℕ). t.0) step in
-    record {
-      reply = reply;
-      succeeds = subst (λ (x : World). Succeeds w node q reply x) (sym same) h;
-      received = receives w m reply after readable bytes room s h fits narrow is;
-    }
+done_or_not : {V : Type 0} (says : V → Reply → Type 0) (reply : Reply) (wanted : World) (result : Result V WireRefusal) (new : World) → Succeeded says reply wanted result new → IsDoneOrMemory result
+done_or_not says reply wanted (Ok v) new h = tt
+done_or_not says reply wanted (Err (refusals.Errno number)) new h = h
+done_or_not says reply wanted (Err (refusals.BadReply bad)) new h = h
+done_or_not says reply wanted (Err refusals.WireFault) new h = h
+done_or_not says reply wanted (Err refusals.Memory) new h = tt
 
--- ---- what was decoded
+pub done_or_memory : {V : Type 0} (says : V → Reply → Type 0) (reply : Reply) (wanted : World) (result : Result V WireRefusal) (new : World) → Finishes says reply wanted result new → IsDoneOrMemory result
+done_or_memory says reply wanted result new h = done_or_not says reply wanted result new h.by
 
-some_is : (r s : Reply) (o : Option Reply) → o ≡ Some r → o ≡ Some s → r ≡ s
-some_is r s o e h = cc
+-- a value that says the reply, and what is left
+pub record Done {V : Type 0} (says : V → Reply → Type 0) (reply : Reply) (wanted new : World) (v : V) : Type 0 where
+  pub said : says v reply
+  pub left : new ≡ wanted
 
--- the reply that was found is the one that was given
-pub found_reply : (w new : World) (node : ℕ) (q : Request) (r s : Reply) (o : Option Reply) → o ≡ Some r → o ≡ Some s → Succeeds w node q s new → Succeeds w node q r new
-found_reply w new node q r s o e h k = subst (λ (x : Reply). Succeeds w node q x new) (some_is s r o h e) k
+pub done : {V : Type 0} (says : V → Reply → Type 0) (reply : Reply) (wanted : World) (result : Result V WireRefusal) (new : World) (v : V) → Finishes says reply wanted result new → result ≡ Ok v → Done says reply wanted new v
+done {V} says reply wanted result new v h e =
+    let k = subst (λ (r : Result V WireRefusal). Succeeded says reply wanted r new) e h.by in
+    record { said = k.0; left = k.1 }
 
-pair_is : (x y : ℕ × Reply) → GivesReply (Ok y) (Ok x) → x ≡ y
-pair_is x y e = cc
+-- the wire stays live
+pub live_again : {S V : Type 0} (wire : S → WireView) (gives : S → Boards → Sent → List ℕ → S → Boards → Type 0) (says : V → Reply → Type 0) (before : S) (old : Boards) (m : Message) (result : Result V WireRefusal) (after : S) (new : Boards)
+    → Answers wire gives says before old m result after new → KeepsWire (wire before) (wire after) → IsLive (wire before) old → IsLive (wire after) new
+live_again wire gives says before old m result after new answer keeps live = record {
+  honest = keeps.honest ∙ live.honest;
+  servable = IsServable-answer wire gives says before old m result after new answer live.honest live.servable;
+}
 
-pub pair_number : (x y : ℕ × Reply) → GivesReply (Ok y) (Ok x) → x.0 ≡ y.0
-pair_number x y e = ap (λ (p : ℕ × Reply). p.0) (pair_is x y e)
+-- ---- each of them
 
-pub pair_reply : (x y : ℕ × Reply) → GivesReply (Ok y) (Ok x) → Some y.1 ≡ Some x.1
-pair_reply x y e = ap (λ (p : ℕ × Reply). Some p.1) (sym (pair_is x y e))
+-- a session of protocol 7.31 that asks for no direct access
+abbrev asked : InitIn
+asked = record { major = 7; minor = 31; max_readahead = 131072; flags = if false then 2 ^ 26 else 0; flags2 = None }
 
--- ---- what a reply has
+-- what the device tells of a session without direct access
+abbrev pub told_by : World → InitOut
+told_by w = init_out_with (session_flags w.state.pages asked) asked
 
-pub init_is : (reply : Reply) (r t : InitOut) → reply ≡ gives.Init r → reply ≡ gives.Init t → r ≡ t
-init_is reply r t e h = cc
+abbrev pub SaysInit : InitOut → Reply → Type 0
+SaysInit out reply = reply ≡ replies.Init out
 
-pub entry_is : (reply : Reply) (r t : EntryOut) → reply ≡ gives.Entry r → reply ≡ gives.Entry t → r ≡ t
-entry_is reply r t e h = cc
+pub begins : {S : Type 0} (wire : S → WireView) (gives : S → Boards → Sent → List ℕ → S → Boards → Type 0) (before : S) (old : Boards) (unique : ℕ) (result : Result InitOut WireRefusal) (after : S) (new : Boards)
+    → Answers wire gives SaysInit before old (message unique 0 (init_request false)) result after new → IsLive (wire before) old
+    → Finishes SaysInit (replies.Init (told_by (world_at (wire before) old))) (record (world_at (wire before) old) { state = begun (wire before).state }) result (world_at (wire after) new)
+unfolding form_of
+begins wire gives before old unique result after new answer live =
+    let w = world_at (wire before) old in
+    record { by = succeeded wire gives SaysInit before old (message unique 0 (init_request false)) (replies.Init (told_by w)) (record w { state = begun w.state }) result after new answer live.honest refl (init_succeeds w 0 asked refl (omega arith) (omega arith)) }
 
-pub opened_is : (reply : Reply) (r t : OpenOut) → reply ≡ gives.Opened r → reply ≡ gives.Opened t → r ≡ t
-opened_is reply r t e h = cc
+abbrev pub SaysEntry : EntryOut → Reply → Type 0
+SaysEntry out reply = reply ≡ replies.Entry out
 
-pub bytes_are : (reply : Reply) (r t : List ℕ) → reply ≡ gives.Bytes r → reply ≡ gives.Bytes t → r ≡ t
-bytes_are reply r t e h = cc
+pub finds : {S : Type 0} (wire : S → WireView) (gives : S → Boards → Sent → List ℕ → S → Boards → Type 0) (before : S) (old : Boards) (unique : ℕ) (name : List ℕ) (i : ℕ) (result : Result EntryOut WireRefusal) (after : S) (new : Boards)
+    → Answers wire gives SaysEntry before old (message unique 1 (asks.Lookup name)) result after new → IsLive (wire before) old
+    → (wire before).state.started ≡ true → named (wire before).state name ≡ Some i → size_of (file_at old.files i) ≤ max_file
+    → Finishes SaysEntry (replies.Entry (entry_of (wire before).state old.files i)) (record (world_at (wire before) old) { state = looked_up (wire before).state i }) result (world_at (wire after) new)
+unfolding form_of
+finds wire gives before old unique name i result after new answer live started found small =
+    let w = world_at (wire before) old in
+    record { by = succeeded wire gives SaysEntry before old (message unique 1 (asks.Lookup name)) (replies.Entry (entry_of w.state w.files i)) (record w { state = looked_up w.state i }) result after new answer live.honest refl (lookup_succeeds w name i started found live.servable.few small) }
 
-pub wrote_is : (reply : Reply) (r t : WriteOut) → reply ≡ gives.Wrote r → reply ≡ gives.Wrote t → r ≡ t
-wrote_is reply r t e h = cc
+pub opens : {S : Type 0} (wire : S → WireView) (gives : S → Boards → Sent → List ℕ → S → Boards → Type 0) (before : S) (old : Boards) (unique node : ℕ) (result : Result ℕ WireRefusal) (after : S) (new : Boards)
+    → Answers wire gives SaysOpened before old (message unique node open_request) result after new → IsLive (wire before) old
+    → (wire before).state.started ≡ true → is_known (wire before).state node ≡ true → is_made (wire before).state node ≡ true → may_open (wire before).state ≡ true
+    → Finishes SaysOpened (replies.Opened (open_out_of (wire before).state)) (record (world_at (wire before) old) { state = with_open (wire before).state node }) result (world_at (wire after) new)
+unfolding form_of
+opens wire gives before old unique node result after new answer live started known made may =
+    let w = world_at (wire before) old in
+    record { by = succeeded wire gives SaysOpened before old (message unique node open_request) (replies.Opened (open_out_of w.state)) (record w { state = with_open w.state node }) result after new answer live.honest refl (open_succeeds w node (record { flags = 2; open_flags = 0 }) started known (is_file w.state node made) may) }
 
--- ---- the beginning of a session
+-- the bytes that a read gives
+abbrev pub part_of : Boards → ℕ → ℕ → ℕ → List ℕ
+part_of b node off len = take len (drop off (bytes_now (file_at b.files (node - 2))))
 
-pub can_init : (w : World) (ask_map : Bool) → CanSucceed w 0 (asks.Init (init_for ask_map))
-can_init w ask_map = (gives.Init (init_out_with (session_flags w.state.pages (init_for ask_map)) (init_for ask_map)), record w { state = begun w.state }, init_succeeds w 0 (init_for ask_map) refl (omega arith) (omega arith))
+abbrev pub SaysBytes : List ℕ → Reply → Type 0
+SaysBytes bytes reply = reply ≡ replies.Bytes bytes
 
-pub did_init : (w new : World) (ask_map : Bool) (reply : Reply) → Succeeds w 0 (asks.Init (init_for ask_map)) reply new
-    → Same reply (gives.Init (init_out_with (session_flags w.state.pages (init_for ask_map)) (init_for ask_map))) new (record w { state = begun w.state })
-did_init w new ask_map reply h = same_answer w 0 (asks.Init (init_for ask_map)) reply _ new _ h (init_succeeds w 0 (init_for ask_map) refl (omega arith) (omega arith))
+pub reads : {S : Type 0} (wire : S → WireView) (gives : S → Boards → Sent → List ℕ → S → Boards → Type 0) (before : S) (old : Boards) (unique : ℕ) (at : FileRef) (off len : ℕ) (result : Result (List ℕ) WireRefusal) (after : S) (new : Boards)
+    → Answers wire gives SaysBytes before old (message unique at.node (read_request at off len)) result after new → IsLive (wire before) old
+    → HasOpenFile (wire before).state at.node at.fh → len ≤ 1048576
+    → Finishes SaysBytes (replies.Bytes (part_of old at.node off len)) (record (world_at (wire before) old) { files = applied old.files (at.node - 2) (ops.Read off len) }) result (world_at (wire after) new)
+unfolding form_of
+reads wire gives before old unique at off len result after new answer live h small =
+    let w = world_at (wire before) old in
+    record { by = succeeded wire gives SaysBytes before old (message unique at.node (read_request at off len)) (replies.Bytes (part_of old at.node off len)) (record w { files = applied w.files (at.node - 2) (ops.Read off len) }) result after new answer live.honest refl (read_succeeds w at.node (record { fh = at.fh; offset = off; size = len; read_flags = 0; lock_owner = 0; flags = 0 }) h small) }
 
--- ---- a file's entry
+pub writes : {S : Type 0} (wire : S → WireView) (gives : S → Boards → Sent → List ℕ → S → Boards → Type 0) (before : S) (old : Boards) (unique : ℕ) (at : FileRef) (off : ℕ) (bytes : List ℕ) (result : Result ℕ WireRefusal) (after : S) (new : Boards)
+    → Answers wire gives SaysWrote before old (message unique at.node (write_request at off bytes)) result after new → IsLive (wire before) old
+    → HasOpenFile (wire before).state at.node at.fh → length bytes ≤ 1048576 → off + length bytes ≤ max_file
+    → Finishes SaysWrote (replies.Wrote (record { size = length bytes })) (record (world_at (wire before) old) { files = applied old.files (at.node - 2) (ops.Write off bytes) }) result (world_at (wire after) new)
+unfolding form_of
+writes wire gives before old unique at off bytes result after new answer live h small within =
+    let w = world_at (wire before) old in
+    record { by = succeeded wire gives SaysWrote before old (message unique at.node (write_request at off bytes)) (replies.Wrote (record { size = length bytes })) (record w { files = applied w.files (at.node - 2) (ops.Write off bytes) }) result after new answer live.honest refl (write_succeeds w at.node (write_at at.fh off (length bytes)) bytes h small within) }
 
-pub can_lookup : (w : World) (name : List ℕ) (i : ℕ) → w.state.started ≡ true → named w.state name ≡ Some i → length w.state.made ≤ 16 → size_of (file_at w.files i) ≤ max_file → CanSucceed w 1 (asks.Lookup name)
-can_lookup w name i started found few small = (gives.Entry (entry_of w.state w.files i), record w { state = looked_up w.state i }, lookup_succeeds w name i started found few small)
+-- ---- what a reply says
 
-pub did_lookup : (w new : World) (name : List ℕ) (i : ℕ) (reply : Reply) → w.state.started ≡ true → named w.state name ≡ Some i → length w.state.made ≤ 16 → size_of (file_at w.files i) ≤ max_file
-    → Succeeds w 1 (asks.Lookup name) reply new → Same reply (gives.Entry (entry_of w.state w.files i)) new (record w { state = looked_up w.state i })
-did_lookup w new name i reply started found few small h = same_answer w 1 (asks.Lookup name) reply _ new _ h (lookup_succeeds w name i started found few small)
+pub entry_is : (r t : EntryOut) → replies.Entry r ≡ replies.Entry t → t ≡ r
+entry_is r t e = cc
+
+same_opened : (r t : OpenOut) → replies.Opened t ≡ replies.Opened r → r ≡ t
+same_opened r t e = cc
+
+pub opened_is : (fh : ℕ) (r : OpenOut) → SaysOpened fh (replies.Opened r) → fh ≡ r.fh
+opened_is fh r (opened, e, is) = is ∙ ap (λ (o : OpenOut). o.fh) (same_opened opened r e)
+
+pub bytes_are : (r t : List ℕ) → replies.Bytes r ≡ replies.Bytes t → t ≡ r
+bytes_are r t e = cc
+
+same_wrote : (r t : WriteOut) → replies.Wrote t ≡ replies.Wrote r → r ≡ t
+same_wrote r t e = cc
+
+pub wrote_is : (n m : ℕ) → SaysWrote n (replies.Wrote (record { size = m })) → n ≡ m
+wrote_is n m e = ap (λ (w : WriteOut). w.size) (same_wrote (record { size = n }) (record { size = m }) e)
 
 pub same_place : (i k : ℕ) (o : Option ℕ) → o ≡ Some i → o ≡ Some k → i ≡ k
 same_place i k o e h = cc
-
--- ---- a new handle
-
-pub can_open : (w : World) (node : ℕ) (r : OpenIn) → w.state.started ≡ true → is_known w.state node ≡ true → is_made w.state node ≡ true → may_open w.state ≡ true → CanSucceed w node (asks.OpenFile r)
-can_open w node r started known made may = (gives.Opened (open_out_of w.state), record w { state = with_open w.state node }, open_succeeds w node r started known (is_file w.state node made) may)
-
-pub did_open : (w new : World) (node : ℕ) (r : OpenIn) (reply : Reply) → w.state.started ≡ true → is_known w.state node ≡ true → is_made w.state node ≡ true → may_open w.state ≡ true
-    → Succeeds w node (asks.OpenFile r) reply new → Same reply (gives.Opened (open_out_of w.state)) new (record w { state = with_open w.state node })
-did_open w new node r reply started known made may h = same_answer w node (asks.OpenFile r) reply _ new _ h (open_succeeds w node r started known (is_file w.state node made) may)
-
--- ---- an open file
-
--- the bytes that a read gives
-abbrev pub part_of : World → ℕ → ℕ → ℕ → List ℕ
-part_of w node off len = take len (drop off (bytes_now (file_at w.files (node - 2))))
-
-pub can_read : (w : World) (node fh off len : ℕ) → HasOpenFile w.state node fh → len ≤ 1048576 → CanSucceed w node (asks.Read (read_for fh off len))
-can_read w node fh off len h small = (gives.Bytes (part_of w node off len), record w { files = applied w.files (node - 2) (ops.Read off len) }, read_succeeds w node (read_for fh off len) h small)
-
-pub did_read : (w new : World) (node fh off len : ℕ) (reply : Reply) → HasOpenFile w.state node fh → len ≤ 1048576 → Succeeds w node (asks.Read (read_for fh off len)) reply new
-    → Same reply (gives.Bytes (part_of w node off len)) new (record w { files = applied w.files (node - 2) (ops.Read off len) })
-did_read w new node fh off len reply h small k = same_answer w node (asks.Read (read_for fh off len)) reply _ new _ k (read_succeeds w node (read_for fh off len) h small)
-
-pub can_write : (w : World) (node fh off size : ℕ) (bytes : List ℕ) → HasOpenFile w.state node fh → size ≤ 1048576 → off + size ≤ max_file → CanSucceed w node (asks.Write (write_for fh off size) bytes)
-can_write w node fh off size bytes h small within = (gives.Wrote (record { size = size }), record w { files = applied w.files (node - 2) (ops.Write off bytes) }, write_succeeds w node (write_for fh off size) bytes h small within)
-
-pub did_write : (w new : World) (node fh off size : ℕ) (bytes : List ℕ) (reply : Reply) → HasOpenFile w.state node fh → size ≤ 1048576 → off + size ≤ max_file → Succeeds w node (asks.Write (write_for fh off size) bytes) reply new
-    → Same reply (gives.Wrote (record { size = size })) new (record w { files = applied w.files (node - 2) (ops.Write off bytes) })
-did_write w new node fh off size bytes reply h small within k = same_answer w node (asks.Write (write_for fh off size) bytes) reply _ new _ k (write_succeeds w node (write_for fh off size) bytes h small within)
-
-pub write_bounded : (r : WriteIn) (fh off : ℕ) (bytes copy : List ℕ) → r ≡ write_for fh off (length bytes) → copy ≡ bytes → length bytes ≤ 1048576 → is_bounded (asks.Write r copy) ≡ true
-unfolding is_bounded
-write_bounded r fh off bytes copy e same small = rw (e, same, eq-eqb (length bytes) (length bytes) refl) (le-leb _ _ small)

@@ -16,8 +16,8 @@ use Rattle.plain_file.proofs.OneFile.{file_at-with_file}
 use Rattle.page_map.specs.Board.{MapView}
 use Rattle.daemon_core.specs.State.{State, new_state, begun, looked_up, named, is_made}
 use Rattle.daemon_core.specs.Checks.{is_known, may_open}
-use Rattle.daemon_core.specs.Promises.{world}
-use Rattle.daxrun.specs.declared.client.FileRef.{FileRef}
+use Rattle.guest_wire.specs.declared.driver.FileRef.{FileRef}
+use Rattle.guest_wire.specs.Wires.{WireView, boards}
 use Rattle.daxrun.specs.Play.{IsPlayed, IsOpened, firsts_of}
 
 pub bytes_now-with_own : (plain : Bool) (e : Entry) (f : FileView) → bytes_now (with_own plain e f) ≡ after (bytes_now f) e.op
@@ -92,11 +92,14 @@ unfolding is_known is_made may_open
 found-first name = record { started = refl; known = refl; made = refl; may = refl }
 
 -- a mark changes nothing for requests
-pub opened-marked : (at : FileRef) (s : State) (v : BoardView) (m : MapView) (n : ℕ) → IsOpened at (world s v m) → IsOpened at (world s (marked v n Req) m)
-opened-marked at s v m n h =
-    let k = h.servable in
+pub opened-marked : (at : FileRef) (w : WireView) (v : BoardView) (m : MapView) (n : ℕ) → IsOpened at w (boards v m) → IsOpened at w (boards (marked v n Req) m)
+opened-marked at w v m n h =
+    let k = h.live.servable in
     record {
-      servable = record { plain = k.plain; enough = k.enough; ready = k.ready; few = k.few; free = k.free; pages = k.pages };
+      live = record {
+        honest = h.live.honest;
+        servable = record { plain = k.plain; enough = k.enough; ready = k.ready; few = k.few; free = k.free; pages = k.pages };
+      };
       first = h.first;
       opened = h.opened;
     }

@@ -6,7 +6,7 @@ pub mod Transcript
 pub mod TranscriptText
 pub mod Legal
 pub mod Play
-pub mod Client
+pub mod Requests
 pub mod Followed
 pub mod TranscriptReading
 pub mod Run

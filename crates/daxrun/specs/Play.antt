@@ -5,10 +5,10 @@ use Rattle.plain_file.specs.declared.operations.Way.TheVariants.{Req}
 use Rattle.plain_file.specs.File.{after, answer, first_bytes}
 use Rattle.plain_file.specs.declared.operations.First.{First}
 use Rattle.plain_file.specs.Board.{BoardView, file_at}
-use Rattle.daemon_core.specs.State.{World}
-use Rattle.daemon_core.specs.Promises.{IsServable}
 use Rattle.daemon_core.specs.OpenFiles.{HasOpenFile}
-use Rattle.daxrun.specs.declared.client.FileRef.{FileRef}
+use Rattle.guest_wire.specs.declared.driver.FileRef.{FileRef}
+use Rattle.guest_wire.specs.Wires.{WireView, Boards}
+use Rattle.daxrun.specs.Requests.{IsLive}
 use Rattle.daxrun.specs.declared.scripts.Call.{Call}
 use Rattle.daxrun.specs.declared.scripts.FileLine.{FileLine}
 use Rattle.daxrun.specs.declared.transcripts.EntryLine.{EntryLine}
@@ -70,7 +70,7 @@ pub record IsPlayed (n : ℕ) (v : BoardView) : Type 0 where
   pub count : length (file_at v 0).history ≡ n
 
 -- file 0 is open under this handle, and any request can be served
-pub record IsOpened (at : FileRef) (w : World) : Type 0 where
-  pub servable : IsServable w
+pub record IsOpened (at : FileRef) (w : WireView) (b : Boards) : Type 0 where
+  pub live : IsLive w b
   pub first : at.node ≡ 2
   pub opened : HasOpenFile w.state at.node at.fh

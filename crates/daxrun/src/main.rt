@@ -2,19 +2,21 @@
 //! the transcript: each file's history and each call's reply.
 //!
 //! `main` makes the real source, sink and words, and calls `runs::run`, whose contract is the
-//! program's. A text is read by `parsing`, run by `plays` through the requests of `client`, and the
+//! program's. A text is read by `parsing`, run by `plays` through the `requests` of the client, and the
 //! transcript is printed by `printing`. The definitions stand in `specs/`: `ScriptText` (what text
 //! is a script), `Legal` (when a transcript is legal for a script), `TranscriptText` and
 //! `TranscriptReading` (its text), `Run` (what a run writes with which status).
 #![tactic(auto)]
 
-mod client;
 mod laws;
 mod parsing;
+#[cfg(test)]
+mod play_tests;
 mod plays;
 mod printing;
 #[cfg(test)]
 mod printing_tests;
+mod requests;
 #[cfg(test)]
 mod run_tests;
 mod runs;

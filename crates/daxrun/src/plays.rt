@@ -4,24 +4,27 @@ ghost use Rattle.plain_file.specs.File.{max_file, after, answer};
 ghost use Rattle.plain_file.specs.Board.{file_at, bytes_now, size_of, applied};
 ghost use Rattle.plain_file.specs.Plain.{new_board};
 ghost use Rattle.daemon_core.specs.State.{new_state};
-ghost use Rattle.daemon_core.specs.Promises.{IsServable, world};
+ghost use Rattle.guest_wire.specs.Wires.{boards};
+ghost use Rattle.daxrun.specs.Requests.{IsLive};
 ghost use Rattle.daxrun.specs.Script.{IsCall, IsFirstForm, max_calls, op_of};
 ghost use Rattle.daxrun.specs.Play.{IsPlayed, IsOpened, firsts_of, the_entry, the_line, entries_from, lines_from, entry_lines, entries_of, guests_of, transcript_for};
 ghost use Rattle.daxrun.specs.Legal.{IsLegal};
 ghost use Rattle.daxrun.specs.Script.{is_script_name};
 ghost use Rattle.daxrun.specs.TranscriptReading.{IsPrintable, IsPrintableGuest, IsPrintableNumbered, IsPrintableAnswer};
 
-use crate::client::{Client, FileRef};
+use crate::requests::{begin, look_up, open_file, read, write};
 use crate::scripts::{Call, FileLine, Script};
 use crate::transcripts::{EntryLine, FilePart, GuestPart, Line, Numbered, Transcript};
 use daemon_core::Daemon;
+use dax_host::SoloWire;
+use guest_wire::{Driver, FileRef, Wire};
 use page_map::PageMap;
 use plain_file::{Answer, Entry, FileBoard, First, List, Memory, Name, PlainFiles, Way};
 use std::alloc::Global;
 
 /// Runs a script of one guest on one file, or of none, and tells what it did. The guest begins a
-/// session, opens the file, and makes its calls, all as requests to the daemon in their order. Nothing
-/// is sent after the last call.
+/// session, opens the file, and makes its calls, all as requests that go through a virtqueue to the
+/// daemon, in their order. Nothing is sent after the last call.
 pub fn play(alloc: Global, script: &Script) -> Result<Transcript, Memory>
     requires { IsFirstForm script.now }
     ensures legal { IfOk result (IsLegal script.now) }
@@ -42,7 +45,9 @@ fn play_file(alloc: Global, file: &FileLine, guests: &[List<Call>]) -> Result<Tr
     let mut daemon = daemon(alloc, &file.name)?;
     let mut files = board(alloc, file.first)?;
     let mut map = PageMap::new(alloc, 0)?;
-    let parts = play_guests(alloc, &file.name, guests, &mut daemon, &mut files, &mut map)?;
+    let mut client = Driver::new(SoloWire::new(alloc, &mut daemon)?);
+    let name = &file.name;
+    let parts = play_guests(alloc, &mut client, name, guests, &mut files, &mut map)?;
     let entries = entry_lines(alloc, files.history(0).as_slice())?;
     let mut told = List::new(alloc);
     told.push(FilePart {
@@ -60,7 +65,7 @@ fn play_file(alloc: Global, file: &FileLine, guests: &[List<Call>]) -> Result<Tr
 
 // The daemon of a file of this name, without a window.
 #[tactic(auto, using(daemon_core::proofs::Servable::one_distinct))]
-fn daemon(alloc: Global, name: &Name) -> Result<Daemon, Memory>
+pub(crate) fn daemon(alloc: Global, name: &Name) -> Result<Daemon, Memory>
     ensures { IfOk result (λ d. d ≡ new_state 0 (name.now ∷ [])) }
 {
     let mut names = List::new(alloc);
@@ -69,7 +74,7 @@ fn daemon(alloc: Global, name: &Name) -> Result<Daemon, Memory>
 }
 
 // Files, as many as a daemon can have, of which the first has these contents and the others are empty.
-fn board(alloc: Global, first: First) -> Result<PlainFiles, Memory>
+pub(crate) fn board(alloc: Global, first: First) -> Result<PlainFiles, Memory>
     requires { first.size ≤ max_file }
     ensures value { IfOk result (λ b. b ≡ new_board 0 (firsts_of first)) }
     ensures byte { first.fill < 256 }
@@ -95,16 +100,18 @@ fn entry_lines(alloc: Global, history: &[Entry]) -> Result<List<EntryLine>, Memo
 }
 
 // The first guest, where there is one.
-fn play_guests(
+pub(crate) fn play_guests<W>(
     alloc: Global,
+    client: &mut Driver<W>,
     name: &Name,
     guests: &[List<Call>],
-    daemon: &mut Daemon,
     files: &mut PlainFiles,
     map: &mut PageMap,
 ) -> Result<List<GuestPart>, Memory>
-    requires servable { IsServable (world daemon.old files.old map.old) }
-    requires new { daemon.old ≡ new_state 0 (name.now ∷ []) }
+where
+    W: Wire<PlainFiles, PageMap>,
+    requires live { IsLive (W.wire client.old.wire) (boards files.old map.old) }
+    requires new { (W.wire client.old.wire).state ≡ new_state 0 (name.now ∷ []) }
     requires small { size_of (file_at files.old 0) ≤ max_file }
     requires at { IsPlayed 0 files.old }
     requires fresh { (file_at files.old 0).history ≡ [] }
@@ -119,7 +126,7 @@ fn play_guests(
     match guests {
         [] => {}
         [calls, ..] => {
-            let lines = play_guest(alloc, name, calls.as_slice(), daemon, files, map)?;
+            let lines = play_guest(alloc, client, name, calls.as_slice(), files, map)?;
             parts.push(GuestPart { guest: 0, lines })?;
         }
     }
@@ -127,16 +134,18 @@ fn play_guests(
 }
 
 // Guest 0 on the only file, from the beginning of its session on.
-fn play_guest(
+fn play_guest<W>(
     alloc: Global,
+    client: &mut Driver<W>,
     name: &Name,
     calls: &[Call],
-    daemon: &mut Daemon,
     files: &mut PlainFiles,
     map: &mut PageMap,
 ) -> Result<List<Numbered>, Memory>
-    requires servable { IsServable (world daemon.old files.old map.old) }
-    requires new { daemon.old ≡ new_state 0 (name.now ∷ []) }
+where
+    W: Wire<PlainFiles, PageMap>,
+    requires live { IsLive (W.wire client.old.wire) (boards files.old map.old) }
+    requires new { (W.wire client.old.wire).state ≡ new_state 0 (name.now ∷ []) }
     requires small { size_of (file_at files.old 0) ≤ max_file }
     requires at { IsPlayed 0 files.old }
     requires few { length calls.now ≤ max_calls }
@@ -146,44 +155,44 @@ fn play_guest(
     ensures history { OnOk result ((file_at files.new 0).history ≡ (file_at files.old 0).history ++ entries_from 0 calls.now) }
     ensures many { OnOk result (length files.new.files ≡ 16) }
 {
-    let mut client = Client::new();
-    let at = open_file(alloc, &mut client, name, daemon, files, map)?;
-    play_calls(alloc, &mut client, at, calls, daemon, files, map)
+    let at = start_session(alloc, client, name, files, map)?;
+    play_calls(alloc, client, at, calls, files, map)
 }
 
 // Begins the session, and opens the only file.
-fn open_file(
+fn start_session<W>(
     alloc: Global,
-    client: &mut Client,
+    client: &mut Driver<W>,
     name: &Name,
-    daemon: &mut Daemon,
     files: &mut PlainFiles,
     map: &mut PageMap,
 ) -> Result<FileRef, Memory>
-    requires servable { IsServable (world daemon.old files.old map.old) }
-    requires new { daemon.old ≡ new_state 0 (name.now ∷ []) }
+where
+    W: Wire<PlainFiles, PageMap>,
+    requires live { IsLive (W.wire client.old.wire) (boards files.old map.old) }
+    requires new { (W.wire client.old.wire).state ≡ new_state 0 (name.now ∷ []) }
     requires small { size_of (file_at files.old 0) ≤ max_file }
-    ensures at { IfOk result (λ at. IsOpened at (world daemon.new files.new map.new)) }
+    ensures at { IfOk result (λ at. IsOpened at (W.wire client.new.wire) (boards files.new map.new)) }
     ensures files { OnOk result (files.new ≡ files.old) }
 {
-    client.init(alloc, false, daemon, files, map)?;
-    let entry = client.lookup(alloc, name, daemon, files, map)?;
-    let node = entry.nodeid;
-    let fh = client.open_file(alloc, node, daemon, files, map)?;
+    begin(alloc, client, files, map)?;
+    let node = look_up(alloc, client, name, files, map)?;
+    let fh = open_file(alloc, client, node, files, map)?;
     Ok(FileRef { node, fh })
 }
 
 // The calls of guest 0 on the open file.
-fn play_calls(
+fn play_calls<W>(
     alloc: Global,
-    client: &mut Client,
+    client: &mut Driver<W>,
     at: FileRef,
     calls: &[Call],
-    daemon: &mut Daemon,
     files: &mut PlainFiles,
     map: &mut PageMap,
 ) -> Result<List<Numbered>, Memory>
-    requires opened { IsOpened at (world daemon.old files.old map.old) }
+where
+    W: Wire<PlainFiles, PageMap>,
+    requires opened { IsOpened at (W.wire client.old.wire) (boards files.old map.old) }
     requires at { IsPlayed 0 files.old }
     requires few { length calls.now ≤ max_calls }
     requires calls { AllByRecursion (IsCall 1) calls.now }
@@ -196,7 +205,7 @@ fn play_calls(
     let mut number = 0;
     let mut rest = calls;
     while let [call, after @ ..] = rest {
-        let line = play_call(alloc, client, at, number, call, daemon, files, map)?;
+        let line = play_call(alloc, client, at, number, call, files, map)?;
         lines.push(line)?;
         number += 1;
         rest = after;
@@ -205,28 +214,29 @@ fn play_calls(
 }
 
 #[tactic(auto, unfolding(crate::specs::TranscriptReading::IsPrintableLine))]
-fn play_call(
+fn play_call<W>(
     alloc: Global,
-    client: &mut Client,
+    client: &mut Driver<W>,
     at: FileRef,
     number: u32,
     call: &Call,
-    daemon: &mut Daemon,
     files: &mut PlainFiles,
     map: &mut PageMap,
 ) -> Result<Numbered, Memory>
-    requires opened { IsOpened at (world daemon.old files.old map.old) }
+where
+    W: Wire<PlainFiles, PageMap>,
+    requires opened { IsOpened at (W.wire client.old.wire) (boards files.old map.old) }
     requires at { IsPlayed number files.old }
     requires call { IsCall 1 call.now }
     ensures line { IfOk result (λ n. n ≡ the_line (bytes_now (file_at files.old 0)) number call.now) }
     ensures printable { IfOk result IsPrintableNumbered }
-    ensures opened { OnOk result (IsOpened at (world daemon.new files.new map.new)) }
+    ensures opened { OnOk result (IsOpened at (W.wire client.new.wire) (boards files.new map.new)) }
     ensures at { OnOk result (IsPlayed (number + 1) files.new) }
     ensures bytes { OnOk result (bytes_now (file_at files.new 0) ≡ after (bytes_now (file_at files.old 0)) (op_of call.now)) }
     ensures history { OnOk result ((file_at files.new 0).history ≡ (file_at files.old 0).history ++ the_entry number call.now ∷ []) }
 {
     files.mark(number, Way::Req);
-    let answer = ask(alloc, client, at, call, daemon, files, map)?;
+    let answer = ask(alloc, client, at, call, files, map)?;
     let place = files.own_last(0).unwrap();
     Ok(Numbered {
         call: number,
@@ -236,30 +246,31 @@ fn play_call(
 
 // One request.
 #[tactic(auto, unfolding(crate::specs::Script::op_of, crate::specs::Script::IsCall, plain_file::specs::File::answer, crate::specs::TranscriptReading::IsPrintableAnswer))]
-fn ask(
+fn ask<W>(
     alloc: Global,
-    client: &mut Client,
+    client: &mut Driver<W>,
     at: FileRef,
     call: &Call,
-    daemon: &mut Daemon,
     files: &mut PlainFiles,
     map: &mut PageMap,
 ) -> Result<Answer, Memory>
-    requires opened { IsOpened at (world daemon.old files.old map.old) }
+where
+    W: Wire<PlainFiles, PageMap>,
+    requires opened { IsOpened at (W.wire client.old.wire) (boards files.old map.old) }
     requires call { IsCall 1 call.now }
     ensures answer { IfOk result (λ a. a ≡ answer (bytes_now (file_at files.old 0)) (op_of call.now)) }
     ensures printable { IfOk result IsPrintableAnswer }
-    ensures opened { OnOk result (IsOpened at (world daemon.new files.new map.new)) }
+    ensures opened { OnOk result (IsOpened at (W.wire client.new.wire) (boards files.new map.new)) }
     ensures board { OnOk result (files.new ≡ applied files.old 0 (op_of call.now)) }
 {
     match call {
         Call::Read { off, len, .. } => {
-            let bytes = client.read(alloc, at, *off, *len, daemon, files, map)?;
+            let bytes = read(alloc, client, at, *off, *len, files, map)?;
             Ok(Answer::Bytes(bytes))
         }
         Call::Write { off, bytes, .. } => {
             let bytes = bytes.as_slice();
-            let size = client.write(alloc, at, *off, bytes, daemon, files, map)?;
+            let size = write(alloc, client, at, *off, bytes, files, map)?;
             Ok(Answer::Wrote(size as u64))
         }
     }

@@ -4,7 +4,8 @@ use plain_file::{Blob, List, Memory};
 use std::alloc::{AllocError, Global};
 use std::test::Fail;
 
-const HELLO: &str = "ranges 0\nfile a 0\nguest\nwrite a 0 68656c6c6f\nread a 0 9\n";
+// One guest that writes a file and reads it.
+pub const HELLO: &str = "ranges 0\nfile a 0\nguest\nwrite a 0 68656c6c6f\nread a 0 9\n";
 
 const HELLO_TOLD: &str =
     "transcript 1\nranges 0\nfile a 0 00\nentry 0 0 req\nentry 0 1 req\nguest 0\n0 done 0 wrote 5\n1 done 1 bytes 68656c6c6f\nend\n";

@@ -2,15 +2,15 @@ use Rattle.std.proofs.Common.{◌≡◌, ◌+◌, ◌++◌, length}
 use Rattle.std.specs.List.{AllByRecursion}
 use Rattle.plain_file.specs.Board.{file_at, bytes_now}
 use Rattle.daxrun.specs.Script.{IsCall}
-use Rattle.daemon_core.specs.Promises.{world}
+use Rattle.guest_wire.specs.Wires.{boards}
 use Rattle.daxrun.specs.Play.{IsPlayed, IsOpened, entries_from, lines_from}
 use Rattle.daxrun.specs.TranscriptReading.{IsPrintableNumbered}
 use Rattle.daxrun.proofs.plays.play_calls.Given as goal
 
 -- what was told and what the rest gives is what all give
 abbrev pub invariant-loop-rest : goal.invariant-loop-rest
-invariant-loop-rest l = record {
-  opened : IsOpened l.at (world l.daemon l.files l.map);
+invariant-loop-rest g l = record {
+  opened : IsOpened l.at (g.W.Wire.wire l.client.wire) (boards l.files l.map);
   played : IsPlayed l.number l.files;
   count : l.number + length l.rest ≡ length l.calls;
   calls : AllByRecursion (IsCall 1) l.rest;
@@ -20,4 +20,4 @@ invariant-loop-rest l = record {
 }
 
 abbrev pub decreases-loop-rest : goal.decreases-loop-rest
-decreases-loop-rest l = length l.rest
+decreases-loop-rest g l = length l.rest
