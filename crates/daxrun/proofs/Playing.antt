@@ -1,5 +1,5 @@
 -- One call more on the only file of a board.
-use Rattle.std.proofs.Common.{◌≡◌, ◌∙◌, ap, refl, ℕ, ◌+◌, ◌-◌, ◌<◌, Bool, true, List, [], ◌∷◌, ◌++◌, length, slice_get, Some, arith, length-append}
+use Rattle.std.proofs.Common.{◌≡◌, ◌∙◌, ap, refl, ℕ, ◌+◌, ◌-◌, ◌<◌, ◌≤◌, Bool, true, List, [], ◌∷◌, ◌++◌, length, slice_get, Some, arith, length-append}
 use Rattle.std.proofs.lemmas.List.{length-set, length-replicate}
 use Rattle.std.specs.Str.{bytes_eq}
 use Rattle.std.proofs.lemmas.Slice.Eq.{bytes_eq-Decides}
@@ -7,15 +7,18 @@ use Rattle.plain_file.specs.declared.operations.Entry.{Entry}
 use Rattle.plain_file.specs.declared.operations.Op.{Op}
 use Rattle.plain_file.specs.declared.operations.Way.TheVariants.{Req}
 use Rattle.plain_file.specs.declared.operations.First.{First}
-use Rattle.plain_file.specs.File.{after, first_bytes}
+use Rattle.plain_file.specs.File.{after, first_bytes, max_file}
 use Rattle.plain_file.specs.History.{bytes, after_all}
 use Rattle.plain_file.specs.Plain.{new_board}
 use Rattle.plain_file.specs.Board.{FileView, BoardView, file_at, with_own, entry_of, applied, marked, bytes_now, size_of, last_of}
 use Rattle.plain_file.proofs.Grows.{bytes-grown}
 use Rattle.plain_file.proofs.OneFile.{file_at-with_file}
 use Rattle.page_map.specs.Board.{MapView}
+use Rattle.page_map.specs.Plain.{new_map}
 use Rattle.daemon_core.specs.State.{State, new_state, begun, looked_up, named, is_made}
 use Rattle.daemon_core.specs.Checks.{is_known, may_open}
+use Rattle.daemon_core.specs.Promises.{IsServable, world}
+use Rattle.daemon_core.proofs.Servable.{servable_at_start}
 use Rattle.guest_wire.specs.declared.driver.FileRef.{FileRef}
 use Rattle.guest_wire.specs.Wires.{WireView, boards}
 use Rattle.daxrun.specs.Play.{IsPlayed, IsOpened, firsts_of}
@@ -69,6 +72,16 @@ played-new first = record { guest = refl; plain = refl; many = refl; count = ref
 
 pub size_of-new : (guest : ℕ) (first : First) → size_of (file_at (new_board guest (firsts_of first)) 0) ≡ first.size
 size_of-new guest first = ap length (bytes_now-new guest first) ∙ length-replicate first.size first.fill
+
+pub small-new : (first : First) (v : BoardView) → v ≡ new_board 0 (firsts_of first) → first.size ≤ max_file → size_of (file_at v 0) ≤ max_file
+small-new first v e small = omega (arith, ap (λ (b : BoardView). size_of (file_at b 0)) e, size_of-new 0 first, small)
+
+-- any request can be served over it
+pub servable-new : (name : List ℕ) (first : First) (s : State) (v : BoardView) (m : MapView) → s ≡ new_state 0 (name ∷ []) → v ≡ new_board 0 (firsts_of first) → m ≡ new_map 0 → IsServable (world s v m)
+servable-new name first s v m state files map =
+    let one : length (name ∷ []) ≤ 16 = omega arith in
+    let enough : 16 ≤ length (firsts_of first) = omega arith in
+    rw (state, files, map) (servable_at_start 0 0 (name ∷ []) (firsts_of first) one enough)
 
 -- ---- the session
 

@@ -56,7 +56,7 @@ where
     ensures node { IfOk result (λ node. (i : ℕ) → named (W.wire client.old.wire).state name.now ≡ Some i → node ≡ i + 2) }
     ensures left { OnOk result ((i : ℕ) → named (W.wire client.old.wire).state name.now ≡ Some i
         → world_at (W.wire client.new.wire) (boards files.new map.new)
-            ≡ record (world_at (W.wire client.old.wire) (boards files.old map.old)) { state = looked_up (W.wire client.old.wire).state i }) }
+        ≡ record (world_at (W.wire client.old.wire) (boards files.old map.old)) { state = looked_up (W.wire client.old.wire).state i }) }
     ensures number { client.new.unique ≡ next_number client.old.unique }
 {
     let entry = finish(client.lookup(alloc, name, files, map))?;

@@ -1,6 +1,6 @@
 -- What the code of `ring` rests on: each answer has its line, and what is gathered and scattered has room.
-use Rattle.std.proofs.Common.{◌≡◌, ◌∙◌, sym, refl, arith, ◌≤◌, ℕ, ◌+◌, List, [], ◌∷◌, ◌++◌, length, take, drop, Some, None, Result, Ok, Err, inl, inr}
-use Rattle.std.specs.Prelude.{IsOk, unwrap_or}
+use Rattle.std.proofs.Common.{◌≡◌, ◌∙◌, refl, ap, arith, ◌≤◌, ℕ, ◌+◌, List, [], ◌∷◌, ◌++◌, length, drop, Some, None, Result, Ok, Err, inl, inr}
+use Rattle.std.specs.Prelude.{IsOk}
 use Rattle.std.proofs.lemmas.List.Sums.{sum_by-cons}
 use Rattle.std.proofs.lemmas.List.{length-take, length-append}
 use Rattle.fuse_wire.proofs.Laws.{IsBytes}

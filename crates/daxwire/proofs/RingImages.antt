@@ -6,7 +6,7 @@ use Rattle.vring.specs.Layout.{is_allowed, IsLayout}
 use Rattle.vring.specs.Ring.{RingView, new_ring}
 use Rattle.vring.proofs.LayoutLemmas.{layout_if}
 use Rattle.fuse_wire.specs.Records.{u16_at, u32_at, u64_at}
-use Rattle.daxwire.specs.RingImage.{DeviceView, is_image, image_header_len, device_in, device_with, image_ring}
+use Rattle.daxwire.specs.RingImage.{DeviceView, is_image, image_header_len, device_in, image_ring}
 use Rattle.daemon_core.specs.State.{World}
 use Rattle.daxwire.specs.Serve.{first_world}
 

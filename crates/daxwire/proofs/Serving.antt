@@ -1,7 +1,7 @@
 -- What stays true of the device that serves a stream.
-use Rattle.std.proofs.Common.{◌≡◌, ◌∙◌, ap, sym, subst, refl, arith, ℕ, ◌-◌, ◌<◌, ◌≤◌, List, [], ◌∷◌, length, length-set, map, replicate, take, Result, Ok, Err, OnOk, OnErr}
+use Rattle.std.proofs.Common.{◌≡◌, ◌∙◌, ap, refl, arith, ℕ, List, [], ◌∷◌, length, length-set, replicate, take, Result, Ok, Err, OnOk, OnErr}
 use Rattle.std.proofs.lemmas.List.{length-replicate}
-use Rattle.daemon_core.specs.Promises.{IsServable, world}
+use Rattle.daemon_core.specs.Promises.{world}
 use Rattle.daemon_core.specs.State.{State, World, new_state}
 use Rattle.daemon_core.specs.Steps.{device_step}
 use Rattle.daemon_core.proofs.Mapped.{NamesFiles-device_step, NamesFiles-new_map}

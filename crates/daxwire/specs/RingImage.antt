@@ -1,5 +1,5 @@
 -- A ring image: a guest's memory with a split virtqueue in it, and where the queue lies.
-use Rattle.std.specs.Prelude.{ℕ, ◌+◌, ◌==◌, Bool, ◌&&◌, nat_le, List, [], length, take, drop, codes, Option, None, option_map, if◌then◌else◌}
+use Rattle.std.specs.Prelude.{ℕ, ◌+◌, ◌==◌, Bool, ◌&&◌, nat_le, List, length, take, drop, codes, Option, None, option_map, if◌then◌else◌}
 use Rattle.std.specs.Str.{bytes_eq}
 use Rattle.fuse_wire.specs.Records.{u16_at, u32_at, u64_at}
 use Rattle.daemon_core.specs.State.{World}

@@ -1,15 +1,14 @@
-use Rattle.std.proofs.Common.{◌≡◌, ◌∙◌, ◌≤◌, ap, sym, subst, refl, List, ℕ, [], ◌∷◌, length, map, arith}
+use Rattle.std.proofs.Common.{◌≡◌, ◌∙◌, ap, sym, subst, refl, List, ℕ, [], ◌∷◌, map, arith}
 use Rattle.std.proofs.lemmas.Grind.{common_steps}
 use Rattle.std.specs.List.{AllByRecursion}
 use Rattle.plain_file.specs.File.{first_bytes}
-use Rattle.plain_file.specs.Board.{BoardView, file_at, bytes_now, size_of}
+use Rattle.plain_file.specs.Board.{BoardView, file_at, bytes_now}
 use Rattle.daxrun.specs.declared.transcripts.GuestPart.{GuestPart}
 use Rattle.daxrun.specs.declared.transcripts.Transcript.{Transcript}
-use Rattle.daxrun.specs.Play.{entry_line, entries_of, guests_of, firsts_of, transcript_for}
+use Rattle.daxrun.specs.Play.{entry_line, entries_of, guests_of, transcript_for}
 use Rattle.daxrun.specs.TranscriptReading.{IsPrintable, IsPrintableGuest}
 use Rattle.daemon_core.specs.State.{new_state}
-use Rattle.daemon_core.proofs.Servable.{servable_at_start}
-use Rattle.daxrun.proofs.Playing.{bytes_now-new, size_of-new}
+use Rattle.daxrun.proofs.Playing.{bytes_now-new, servable-new, small-new}
 use Rattle.daxrun.proofs.Printable.{transcript_printable}
 use Rattle.daxrun.proofs.plays.play_file.Goals as goal
 
@@ -40,9 +39,7 @@ returns-clause-printable c =
     subst Q (sym (value c)) (transcript_printable f gs c.requires.name c.requires.size c.board.ensures.byte c.requires.few (subst P guests c.in_ok-parts.ensures.printable))
 
 pub play_guests-requires-clause-small : goal.play_guests-requires-clause-small
-play_guests-requires-clause-small c =
-    let f = c.args.file.now in
-    omega (arith, ap (λ (v : BoardView). size_of (file_at v 0)) c.in_ok-files.ensures.value, size_of-new 0 f.first, c.requires.size)
+play_guests-requires-clause-small c = small-new c.args.file.now.first _ c.in_ok-files.ensures.value c.requires.size
 
 -- the wire hands requests to a new daemon, over boards on which nothing was done
 pub play_guests-requires-clause-new : goal.play_guests-requires-clause-new
@@ -52,7 +49,4 @@ pub play_guests-requires-clause-live : goal.play_guests-requires-clause-live
 play_guests-requires-clause-live c =
     let f = c.args.file.now in
     let state : c.new-client.result.wire.daemon.now ≡ new_state 0 (f.name ∷ []) = ap (λ d. d.wire.daemon.now) c.new-client.ensures ∙ ap (λ w. w.state) c.in_ok-new.ensures ∙ c.in_ok-daemon.ensures in
-    let one : length (f.name ∷ []) ≤ 16 = omega arith in
-    let enough : 16 ≤ length (firsts_of f.first) = omega arith in
-    let h = servable_at_start 0 0 (f.name ∷ []) (firsts_of f.first) one enough in
-    record { honest = refl; servable = rw (state, c.in_ok-files.ensures.value, c.in_ok-map.ensures.new) h }
+    record { honest = refl; servable = servable-new f.name f.first _ _ _ state c.in_ok-files.ensures.value c.in_ok-map.ensures.new }
