@@ -7,7 +7,7 @@ pub send-requires-clause-live : goal.send-requires-clause-live
 send-requires-clause-live c =
     let f = c.args.file.now in
     let state : c.new-client.result.wire.inner.daemon.now ≡ new_state 0 (f.name ∷ []) =
-        ap (λ d. d.wire.inner.daemon.now) c.new-client.ensures ∙ ap (λ k. k.inner.daemon.now) c.new-3.ensures ∙ ap (λ w. w.state) c.in_ok-solo.ensures ∙ c.in_ok-daemon.ensures in
+    ap (λ d. d.wire.inner.daemon.now) c.new-client.ensures ∙ ap (λ k. k.inner.daemon.now) c.new-3.ensures ∙ ap (λ w. w.state) c.in_ok-solo.ensures ∙ c.in_ok-daemon.ensures in
     record { honest = refl; servable = servable-new f.name f.first _ _ _ state c.in_ok-files.ensures.value c.in_ok-map.ensures.new }
 
 pub send-requires-clause-small : goal.send-requires-clause-small
