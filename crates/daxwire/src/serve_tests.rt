@@ -603,8 +603,8 @@ fn a_sink_fails_at_each_call(rt: HostRuntime) -> Result<(), Fail> {
 #[derive(Drop)]
 struct Asking<'a> {
     pieces: &'a [&'a [u8]],
-    asked: u64,
-    answered: &'a Cell<u64>,
+    asked: usize,
+    answered: &'a Cell<usize>,
     faults: u64,
 }
 
@@ -618,10 +618,9 @@ impl Source for Asking<'_> {
             self.faults = self.faults.saturating_add(1);
             return Err(Failed);
         }
-        let Some((piece, rest)) = self.pieces.split_first() else {
+        let Some(piece) = self.pieces.get(self.asked) else {
             return Ok(0);
         };
-        self.pieces = rest;
         self.asked = self.asked.saturating_add(1);
         let n = piece.len().min(buf.len());
         buf[..n].copy_from_slice(piece.split_at(n).0);
@@ -632,7 +631,7 @@ impl Source for Asking<'_> {
 // A sink that counts the pieces that it took.
 #[derive(Drop)]
 struct Counting<'a> {
-    answered: &'a Cell<u64>,
+    answered: &'a Cell<usize>,
 }
 
 impl Sink for Counting<'_> {
