@@ -79,6 +79,7 @@ where
     requires made { is_made (W.wire client.old.wire).state node ≡ true }
     requires may { may_open (W.wire client.old.wire).state ≡ true }
     ensures live { IsLive (W.wire client.new.wire) (boards files.new map.new) }
+    ensures handle { IfOk result (λ fh. fh ≡ (W.wire client.old.wire).state.next_fh) }
     ensures opened { IfOk result (HasOpenFile (W.wire client.new.wire).state node) }
     ensures left { OnOk result (world_at (W.wire client.new.wire) (boards files.new map.new)
         ≡ record (world_at (W.wire client.old.wire) (boards files.old map.old)) { state = with_open (W.wire client.old.wire).state node }) }

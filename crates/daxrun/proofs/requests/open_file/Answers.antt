@@ -18,6 +18,10 @@ returns-in_err-fh-clause-live g c = live_again _ _ _ _ _ _ _ _ _ c.open_file.ens
 pub returns-clause-live : goal.returns-clause-live
 returns-clause-live g c = live_again _ _ _ _ _ _ _ _ _ c.open_file.ensures.answer c.open_file.ensures.wire c.requires.live
 
+pub returns-clause-handle : goal.returns-clause-handle
+returns-clause-handle g c =
+    opened_is _ _ (done _ _ _ _ _ _ (opens _ _ _ _ _ _ _ _ _ c.open_file.ensures.answer c.requires.live c.requires.started c.requires.known c.requires.made c.requires.may) c.in_ok-fh.ensures).said
+
 pub returns-clause-opened : goal.returns-clause-opened
 returns-clause-opened g c =
     let d = done _ _ _ _ _ _ (opens _ _ _ _ _ _ _ _ _ c.open_file.ensures.answer c.requires.live c.requires.started c.requires.known c.requires.made c.requires.may) c.in_ok-fh.ensures in
