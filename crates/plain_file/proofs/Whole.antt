@@ -1,8 +1,8 @@
 -- What holds of a plain board's files.
-use Rattle.std.proofs.Common.{◌≡◌, ◌∙◌, sym, ap, refl, ℕ, ◌<◌, ◌≤◌, true, true≢false, List, [], length, slice_get, get_or, Some, Option, arith}
+use Rattle.std.proofs.Common.{◌≡◌, ◌∙◌, sym, ap, refl, ℕ, ◌<◌, ◌≤◌, true, true≢false, List, [], ◌∷◌, length, zero, suc, slice_get, get_or, Some, Option, arith}
 use Rattle.std.specs.Prelude.{All, map, replicate}
 use Rattle.std.specs.List.{range_with_len}
-use Rattle.std.proofs.lemmas.List.Elements.{All-nil, All-map}
+use Rattle.std.proofs.lemmas.List.Elements.{All-nil, All-map, All-append}
 use Rattle.std.proofs.lemmas.List.FromFn.{length-range_with_len, get_or-range_with_len}
 use Rattle.std.proofs.lemmas.Option.{slice_get-get_or, slice_get_within, get_or_from_slice_get}
 use Rattle.plain_file.specs.declared.operations.Entry.{Entry}
@@ -12,7 +12,7 @@ use Rattle.plain_file.specs.declared.operations.Way.TheVariants as ways
 use Rattle.plain_file.specs.declared.refusals.RefusedBar.{RefusedBar}
 use Rattle.plain_file.specs.File.{max_file}
 use Rattle.plain_file.specs.History.{Past, whole_bytes}
-use Rattle.plain_file.specs.Board.{FileView, size_of}
+use Rattle.plain_file.specs.Board.{FileView, size_of, with_own}
 use Rattle.plain_file.specs.Sound.{IsPlaceOf, IsSoundFile}
 use Rattle.plain_file.specs.Plain.{own_file, new_file, IsAllOf}
 
@@ -47,3 +47,11 @@ sound_file guest past floor refusals refused all small = record {
 -- new files have no entries
 pub new_files_own : (guest : ℕ) (firsts : List First) → All (IsAllOf guest) (map new_file firsts)
 new_files_own guest firsts = All-map (IsAllOf guest) new_file firsts (λ k d within. All-nil _)
+
+All-one : {A : Type 0} (P : A → Type 0) (x : A) → P x → All P (x ∷ [])
+All-one P x one zero d within = one
+All-one P x one (suc k) d within = absurd (omega (arith, within))
+
+-- one entry more of the guest
+pub own_grown : (guest : ℕ) (f : FileView) (e : Entry) → IsAllOf guest f → e.guest ≡ guest → IsAllOf guest (with_own true e f)
+own_grown guest f e all own = All-append (λ (x : Entry). x.guest ≡ guest) f.history (e ∷ []) all (All-one (λ (x : Entry). x.guest ≡ guest) e own)
