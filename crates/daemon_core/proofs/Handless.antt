@@ -9,11 +9,11 @@ use Rattle.plain_file.specs.File.{after}
 use Rattle.plain_file.specs.History.{bytes, after_all}
 use Rattle.plain_file.specs.declared.operations.Op.TheVariants as ops
 use Rattle.plain_file.specs.declared.operations.Mark.{Mark}
-use Rattle.daemon_core.specs.State.{State}
-use Rattle.daemon_core.specs.Promises.{IsServable, world}
-use Rattle.daemon_core.specs.DataSteps.{CanStepData}
+use Rattle.fuse_device.specs.State.{State}
+use Rattle.fuse_device.specs.Promises.{IsServable, world}
+use Rattle.fuse_device.specs.DataSteps.{CanStepData}
 use Rattle.daemon_core.specs.TestBoards.{zero_byte, bareless_file, bareless, handless}
-use Rattle.daemon_core.proofs.DataLaws.{named_within}
+use Rattle.fuse_device.proofs.DataLaws.{named_within}
 
 same_file : (n k : ℕ) → k < n → get_or (replicate n bareless_file) k no_file ≡ bareless_file
 same_file zero k h = absurd (omega (arith, h))

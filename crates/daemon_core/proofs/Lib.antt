@@ -1,14 +1,3 @@
-pub mod Allowed
-pub mod Examples
-pub mod OpenHandles
-pub mod Receiving
-pub mod Replying
-pub mod Answering
 pub mod Unlooks
-pub mod Clears
 pub mod Numbering
-pub mod Decoded
-pub mod Servable
-pub mod Mapped
-pub mod DataLaws
 pub mod Handless

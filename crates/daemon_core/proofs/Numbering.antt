@@ -1,7 +1,7 @@
 -- Entries that are numbered one after another.
 use Rattle.std.proofs.Common.{◌≡◌, ◌∙◌, ap, ℕ, zero, suc, ◌+◌, ◌<◌, List, [], ◌∷◌, ◌++◌, length, take, drop, slice_index_or, slice_set, arith}
 use Rattle.fuse_codec.specs.declared.replies.Dirent.{Dirent}
-use Rattle.daemon_core.specs.Entries.{numbered_from}
+use Rattle.fuse_device.specs.Entries.{numbered_from}
 
 -- the first of them are numbered
 abbrev pub numbered_to : ℕ → ℕ → List Dirent → List Dirent

@@ -1,7 +1,7 @@
 -- Counts of lookups that are set to 0 one after another.
 use Rattle.std.proofs.Common.{◌≡◌, ◌∙◌, ap, refl, ℕ, zero, suc, ◌+◌, ◌<◌, List, [], ◌∷◌, ◌++◌, length, take, drop, map, slice_index_or, slice_set, arith}
-use Rattle.daemon_core.specs.declared.tables.MadeFile.{MadeFile}
-use Rattle.daemon_core.specs.State.{unlooked}
+use Rattle.fuse_device.specs.declared.tables.MadeFile.{MadeFile}
+use Rattle.fuse_device.specs.State.{unlooked}
 
 abbrev pub unlooked_to : ℕ → List MadeFile → List MadeFile
 unlooked_to i xs = map unlooked (take i xs) ++ drop i xs

@@ -1,9 +1,1 @@
-pub mod State
-pub mod Checks
-pub mod Entries
-pub mod Requests
-pub mod Steps
-pub mod Promises
-pub mod DataSteps
-pub mod OpenFiles
 pub mod TestBoards

@@ -2,16 +2,16 @@ ghost use Rattle.std.specs.Prelude.{◌≡◌, ◌≢◌, ◌≤◌, length, tru
 ghost use Rattle.page_map.specs.Board.{MapView};
 ghost use Rattle.plain_file.specs.File.{max_file, reach};
 ghost use Rattle.plain_file.specs.Board.{IsReady};
-ghost use Rattle.daemon_core.specs.State.{is_made};
-ghost use Rattle.daemon_core.specs.Checks.{is_known, has_flag};
-ghost use Rattle.daemon_core.specs.Entries.{attr_with, dir_attr, attr_out_of};
-ghost use Rattle.daemon_core.specs.Requests.{size_in, applies, attr_reply, attr_of, resizes, getattr, setattr};
-ghost use Rattle.daemon_core.specs.Promises.{Gives, IsWithin, world};
-ghost use Rattle.daemon_core.specs.DataSteps.{HasFile};
+ghost use Rattle.fuse_device.specs.State.{is_made};
+ghost use Rattle.fuse_device.specs.Checks.{is_known, has_flag};
+ghost use Rattle.fuse_device.specs.Entries.{attr_with, dir_attr, attr_out_of};
+ghost use Rattle.fuse_device.specs.Requests.{size_in, applies, attr_reply, attr_of, resizes, getattr, setattr};
+ghost use Rattle.fuse_device.specs.Promises.{Gives, IsWithin, world};
+ghost use Rattle.fuse_device.specs.DataSteps.{HasFile};
 
 use crate::daemon::{Daemon, attr_with};
-use crate::refusals::Refused;
 use fuse_codec::Reply;
+use fuse_device::Refused;
 use fuse_wire::{AttrOut, AttrRec, Errno, GetattrIn, SetattrIn};
 use plain_file::{Answer, BoardRefusal, FileBoard, MAX_FILE, Op};
 use std::alloc::Global;
@@ -65,7 +65,7 @@ impl Daemon {
     }
 
     // GETATTR.
-    #[tactic(auto, unfolding(crate::specs::Requests::getattr))]
+    #[tactic(auto, unfolding(fuse_device::specs::Requests::getattr))]
     pub(crate) fn getattr<F: FileBoard>(
         &self,
         alloc: Global,
@@ -112,7 +112,7 @@ impl Daemon {
     }
 
     // SETATTR.
-    #[tactic(auto, unfolding(crate::specs::Requests::setattr))]
+    #[tactic(auto, unfolding(fuse_device::specs::Requests::setattr))]
     pub(crate) fn setattr<F: FileBoard>(
         &self,
         alloc: Global,
@@ -146,7 +146,7 @@ pub(crate) fn has_flag(flags: u32, mask: u32) -> bool
 }
 
 // The size that is answered.
-#[tactic(auto, unfolding(crate::specs::Requests::size_in))]
+#[tactic(auto, unfolding(fuse_device::specs::Requests::size_in))]
 fn size_in(answer: &Answer) -> u64
     ensures { result ≡ size_in answer.now }
 {
@@ -157,7 +157,7 @@ fn size_in(answer: &Answer) -> u64
 }
 
 // The attributes of the directory.
-#[tactic(auto, unfolding(crate::specs::Entries::dir_attr))]
+#[tactic(auto, unfolding(fuse_device::specs::Entries::dir_attr))]
 fn dir_attr() -> AttrRec
     ensures { result ≡ dir_attr }
 {

@@ -2,12 +2,12 @@ ghost use Rattle.std.specs.Prelude.{◌≡◌, ◌≢◌, ◌<◌, ◌≤◌, �
 ghost use Rattle.std.specs.List.{IsDistinct};
 ghost use Rattle.std.specs.Str.{bytes_eq};
 ghost use Rattle.fuse_wire.specs.declared.forgets.ForgetOne.{ForgetOne};
-ghost use Rattle.daemon_core.specs.State.{new_state, new_file, is_made, made_at, named, has_name, is_open, looked_up, unnamed, with_new_file, unlooked, with_open, without_open, begun, ended};
-ghost use Rattle.daemon_core.specs.Checks.{is_known, is_handle, may_open};
-ghost use Rattle.daemon_core.specs.Entries.{attr_with, file_attr, open_out_of};
-ghost use Rattle.daemon_core.specs.Requests.{forgotten, all_forgotten};
+ghost use Rattle.fuse_device.specs.State.{new_state, new_file, is_made, made_at, named, has_name, is_open, looked_up, unnamed, with_new_file, unlooked, with_open, without_open, begun, ended};
+ghost use Rattle.fuse_device.specs.Checks.{is_known, is_handle, may_open};
+ghost use Rattle.fuse_device.specs.Entries.{attr_with, file_attr, open_out_of};
+ghost use Rattle.fuse_device.specs.Requests.{forgotten, all_forgotten};
 
-use crate::tables::{Kind, MadeFile, Opened};
+use fuse_device::{Kind, MadeFile, Opened};
 use fuse_wire::{AttrRec, ForgetOne, OpenOut};
 use plain_file::{List, Memory, Name};
 use std::alloc::Global;
@@ -34,7 +34,7 @@ pub struct Daemon {
 
 impl Model for Daemon {
     ghost use Rattle.std.specs.Prelude.{◌≤◌, length};
-    ghost use Rattle.daemon_core.specs.State.{State};
+    ghost use Rattle.fuse_device.specs.State.{State};
 
     ghost Value = { State };
 
@@ -92,7 +92,7 @@ impl Daemon {
     }
 
     // The directory or a known file.
-    #[tactic(auto, unfolding(crate::specs::Checks::is_known, crate::specs::State::is_made))]
+    #[tactic(auto, unfolding(fuse_device::specs::Checks::is_known, fuse_device::specs::State::is_made))]
     pub(crate) fn is_known(&self, node: u64) -> bool
         ensures { result ≡ is_known self.now node }
     {
@@ -107,7 +107,7 @@ impl Daemon {
     }
 
     // The file of a known node.
-    #[tactic(auto, unfolding(crate::specs::Checks::is_known, crate::specs::State::is_made))]
+    #[tactic(auto, unfolding(fuse_device::specs::Checks::is_known, fuse_device::specs::State::is_made))]
     pub(crate) fn file_of(&self, node: u64) -> u32
         requires known { is_known self.now node ≡ true }
         requires file { node ≢ 1 }
@@ -120,7 +120,7 @@ impl Daemon {
     }
 
     // An open handle of this number and node.
-    #[tactic(auto, unfolding(crate::specs::Checks::is_handle))]
+    #[tactic(auto, unfolding(fuse_device::specs::Checks::is_handle))]
     pub(crate) fn is_handle(&self, fh: u64, node: u64) -> bool
         ensures { result ≡ is_handle self.now fh node }
     {
@@ -130,7 +130,7 @@ impl Daemon {
             .any(|o| o.fh == fh && o.node == node && o.kind == kind)
     }
 
-    #[tactic(auto, unfolding(crate::specs::Checks::may_open))]
+    #[tactic(auto, unfolding(fuse_device::specs::Checks::may_open))]
     pub(crate) fn may_open(&self) -> bool
         ensures { result ≡ may_open self.now }
     {
@@ -138,7 +138,7 @@ impl Daemon {
     }
 
     // The number of the file of this name.
-    #[tactic(auto, unfolding(crate::specs::State::named))]
+    #[tactic(auto, unfolding(fuse_device::specs::State::named))]
     pub(crate) fn named(&self, name: &[u8]) -> Option<usize>
         ensures value { result ≡ named self.now name.now }
         ensures within { IfSome result (λ i. i < length self.now.made) }
@@ -170,7 +170,7 @@ impl Daemon {
     }
 
     // The attributes of a file of this size.
-    #[tactic(auto, unfolding(crate::specs::Entries::file_attr, crate::specs::State::is_made))]
+    #[tactic(auto, unfolding(fuse_device::specs::Entries::file_attr, fuse_device::specs::State::is_made))]
     pub(crate) fn file_attr(&self, node: u64, size: u64) -> AttrRec
         requires made { is_made self.now node ≡ true }
         ensures { result ≡ file_attr self.now node size }
@@ -196,7 +196,7 @@ impl Daemon {
     }
 
     // A new handle of a node.
-    #[tactic(auto, unfolding(crate::specs::Checks::may_open))]
+    #[tactic(auto, unfolding(fuse_device::specs::Checks::may_open))]
     pub(crate) fn open(&mut self, node: u64) -> Result<OpenOut, Memory>
         requires { may_open self.old ≡ true }
         ensures value { IfOk result (λ o. o ≡ open_out_of self.old) }
@@ -235,7 +235,7 @@ impl Daemon {
     }
 
     // A file of that name and a handle of it.
-    #[tactic(auto, unfolding(crate::specs::Checks::may_open))]
+    #[tactic(auto, unfolding(fuse_device::specs::Checks::may_open))]
     pub(crate) fn make(&mut self, name: Name) -> Result<OpenOut, Memory>
         requires few { length self.old.made < 16 }
         requires open { may_open self.old ≡ true }
@@ -256,7 +256,7 @@ impl Daemon {
     }
 
     // Lookups of a node are given back.
-    #[tactic(auto, unfolding(crate::specs::Checks::is_known, crate::specs::State::is_made))]
+    #[tactic(auto, unfolding(fuse_device::specs::Checks::is_known, fuse_device::specs::State::is_made))]
     pub(crate) fn give_back(&mut self, node: u64, lookups: u64)
         ensures { self.new ≡ forgotten self.old node lookups }
     {

@@ -1,16 +1,16 @@
 ghost use Rattle.std.specs.Prelude.{◌≡◌, ◌≤◌, length, true, IfOk, OnOk, OnErr};
 ghost use Rattle.fuse_codec.specs.Grammar.{max_part, is_bounded};
 ghost use Rattle.fuse_codec.specs.Reading.{message_of};
-ghost use Rattle.daemon_core.specs.Steps.{wanted_room, replied};
-ghost use Rattle.daemon_core.specs.DataSteps.{is_data, data_answered, data_judged_message, data_judged, data_step, CanServeData, CanStepData};
-ghost use Rattle.daemon_core.specs.Promises.{Gives, IsWithin, Steps, world};
+ghost use Rattle.fuse_device.specs.Steps.{wanted_room, replied};
+ghost use Rattle.fuse_device.specs.DataSteps.{is_data, data_answered, data_judged_message, data_judged, data_step, CanServeData, CanStepData};
+ghost use Rattle.fuse_device.specs.Promises.{Gives, IsWithin, Steps, world};
 
 use crate::daemon::Daemon;
-use crate::refusals::Refused;
 use crate::steps::{
     MAX_REPLY, errno_of, header_at, is_forget_number, put_error, refusal, wanted_room,
 };
 use fuse_codec::{BadRequest, Message, Reply, Request, decode_request, put_reply};
+use fuse_device::Refused;
 use fuse_wire::{Errno, InHeader, OutHeader};
 use page_map::MapBoard;
 use plain_file::{Blob, FileBoard, Memory};
@@ -18,7 +18,7 @@ use std::alloc::Global;
 
 impl Daemon {
     // A request for a file's bytes or attributes or for the window, once the session is started.
-    #[tactic(auto, unfolding(crate::specs::Requests::answered, crate::specs::DataSteps::is_data, crate::specs::DataSteps::is_on_file, fuse_codec::specs::Grammar::is_bounded, fuse_codec::specs::Grammar::kind_of, fuse_codec::specs::Grammar::asked, fuse_codec::specs::Grammar::form_room, fuse_codec::specs::Opcodes::reply_form))]
+    #[tactic(auto, unfolding(fuse_device::specs::Requests::answered, fuse_device::specs::DataSteps::is_data, fuse_device::specs::DataSteps::is_on_file, fuse_codec::specs::Grammar::is_bounded, fuse_codec::specs::Grammar::kind_of, fuse_codec::specs::Grammar::asked, fuse_codec::specs::Grammar::form_room, fuse_codec::specs::Opcodes::reply_form))]
     pub(crate) fn answer_data<F: FileBoard, M: MapBoard>(
         &self,
         alloc: Global,
@@ -48,7 +48,7 @@ impl Daemon {
     }
 
     // Judges the operation, the session and the room for the reply, then serves the request.
-    #[tactic(auto, unfolding(crate::specs::DataSteps::is_data, crate::specs::DataSteps::data_judged_message, crate::specs::Requests::is_init, crate::specs::Requests::served, crate::specs::Steps::judged_message))]
+    #[tactic(auto, unfolding(fuse_device::specs::DataSteps::is_data, fuse_device::specs::DataSteps::data_judged_message, fuse_device::specs::Requests::is_init, fuse_device::specs::Requests::served, fuse_device::specs::Steps::judged_message))]
     fn judge_data<F: FileBoard, M: MapBoard>(
         &self,
         alloc: Global,
@@ -76,7 +76,7 @@ impl Daemon {
     }
 
     // The bytes that answer a request. They have their place before anything is done.
-    #[tactic(auto, using(fuse_codec::proofs::CleanReplies::reply_bound), unfolding(crate::specs::Steps::reply_to))]
+    #[tactic(auto, using(fuse_codec::proofs::CleanReplies::reply_bound), unfolding(fuse_device::specs::Steps::reply_to))]
     fn answer_data_message<F: FileBoard, M: MapBoard>(
         &self,
         alloc: Global,
@@ -101,7 +101,7 @@ impl Daemon {
     }
 
     // Decodes, judges and replies.
-    #[tactic(auto, using(crate::proofs::Decoded::decoded_bounded, crate::proofs::DataLaws::serves_step))]
+    #[tactic(auto, using(fuse_device::proofs::Decoded::decoded_bounded, fuse_device::proofs::DataLaws::serves_step))]
     fn reply_data<F: FileBoard, M: MapBoard>(
         &self,
         alloc: Global,
@@ -136,7 +136,7 @@ impl Daemon {
     /// other one has to be.
     ///
     /// `Memory` comes only from a refused allocation, and nothing has changed then.
-    #[tactic(auto, unfolding(crate::specs::DataSteps::data_step))]
+    #[tactic(auto, unfolding(fuse_device::specs::DataSteps::data_step))]
     pub fn serve_chain_data<F: FileBoard, M: MapBoard>(
         &self,
         alloc: Global,
@@ -166,7 +166,7 @@ impl Daemon {
 }
 
 // Whether a request is carried out while the daemon stays as it is.
-#[tactic(auto, unfolding(crate::specs::DataSteps::is_data))]
+#[tactic(auto, unfolding(fuse_device::specs::DataSteps::is_data))]
 fn is_data(body: &Request) -> bool
     ensures { result ≡ is_data body.now }
 {

@@ -1,13 +1,13 @@
 ghost use Rattle.std.specs.Prelude.{◌≡◌, true, IfOk};
 ghost use Rattle.page_map.specs.Board.{MapView};
 ghost use Rattle.plain_file.specs.Board.{BoardView};
-ghost use Rattle.daemon_core.specs.Checks.{may_open};
-ghost use Rattle.daemon_core.specs.Requests.{opens, closes, open_file, open_dir, release, release_dir, sync, fallocate};
-ghost use Rattle.daemon_core.specs.Promises.{Gives, IsWithin, world};
+ghost use Rattle.fuse_device.specs.Checks.{may_open};
+ghost use Rattle.fuse_device.specs.Requests.{opens, closes, open_file, open_dir, release, release_dir, sync, fallocate};
+ghost use Rattle.fuse_device.specs.Promises.{Gives, IsWithin, world};
 
 use crate::daemon::Daemon;
-use crate::refusals::Refused;
 use fuse_codec::Reply;
+use fuse_device::Refused;
 use fuse_wire::Errno;
 
 impl Daemon {
@@ -23,7 +23,7 @@ impl Daemon {
     }
 
     // OPEN.
-    #[tactic(auto, unfolding(crate::specs::Requests::open_file))]
+    #[tactic(auto, unfolding(fuse_device::specs::Requests::open_file))]
     pub(crate) fn open_file(&mut self, node: u64) -> Result<Reply, Refused>
         ensures answer { (files : BoardView) (map : MapView) → Gives (world self.old files map) (open_file (world self.old files map) node) result (world self.new files map) }
         ensures room { IfOk result (λ reply. IsWithin 32 reply) }
@@ -41,7 +41,7 @@ impl Daemon {
     }
 
     // OPENDIR.
-    #[tactic(auto, unfolding(crate::specs::Requests::open_dir))]
+    #[tactic(auto, unfolding(fuse_device::specs::Requests::open_dir))]
     pub(crate) fn open_dir(&mut self, node: u64) -> Result<Reply, Refused>
         ensures answer { (files : BoardView) (map : MapView) → Gives (world self.old files map) (open_dir (world self.old files map) node) result (world self.new files map) }
         ensures room { IfOk result (λ reply. IsWithin 32 reply) }
@@ -69,7 +69,7 @@ impl Daemon {
     }
 
     // RELEASE.
-    #[tactic(auto, unfolding(crate::specs::Requests::release))]
+    #[tactic(auto, unfolding(fuse_device::specs::Requests::release))]
     pub(crate) fn release(&mut self, node: u64, fh: u64) -> Result<Reply, Refused>
         ensures answer { (files : BoardView) (map : MapView) → Gives (world self.old files map) (release (world self.old files map) node fh) result (world self.new files map) }
         ensures room { IfOk result (λ reply. IsWithin 16 reply) }
@@ -87,7 +87,7 @@ impl Daemon {
     }
 
     // RELEASEDIR.
-    #[tactic(auto, unfolding(crate::specs::Requests::release_dir))]
+    #[tactic(auto, unfolding(fuse_device::specs::Requests::release_dir))]
     pub(crate) fn release_dir(&mut self, node: u64, fh: u64) -> Result<Reply, Refused>
         ensures answer { (files : BoardView) (map : MapView) → Gives (world self.old files map) (release_dir (world self.old files map) node fh) result (world self.new files map) }
         ensures room { IfOk result (λ reply. IsWithin 16 reply) }
@@ -105,7 +105,7 @@ impl Daemon {
     }
 
     // FSYNC and FLUSH.
-    #[tactic(auto, unfolding(crate::specs::Requests::sync, fuse_codec::specs::Replies::reply_parts, fuse_codec::specs::Replies::is_reply))]
+    #[tactic(auto, unfolding(fuse_device::specs::Requests::sync, fuse_codec::specs::Replies::reply_parts, fuse_codec::specs::Replies::is_reply))]
     pub(crate) fn sync(&self, node: u64, fh: u64) -> Result<Reply, Refused>
         ensures answer { (files : BoardView) (map : MapView) → Gives (world self.now files map) (sync (world self.now files map) node fh) result (world self.now files map) }
         ensures room { IfOk result (λ reply. IsWithin 16 reply) }
@@ -123,7 +123,7 @@ impl Daemon {
     }
 
     // FALLOCATE is always refused.
-    #[tactic(auto, unfolding(crate::specs::Requests::fallocate))]
+    #[tactic(auto, unfolding(fuse_device::specs::Requests::fallocate))]
     pub(crate) fn fallocate(&self, node: u64, fh: u64) -> Result<Reply, Refused>
         ensures answer { (files : BoardView) (map : MapView) → Gives (world self.now files map) (fallocate (world self.now files map) node fh) result (world self.now files map) }
         ensures room { IfOk result (λ reply. IsWithin 16 reply) }

@@ -1,14 +1,13 @@
 ghost use Rattle.std.specs.Prelude.{◌≡◌, ◌<◌, ◌≤◌, ◌+◌, [], drop, length, position, OnOk, IfOk, IfSome};
 ghost use Rattle.page_map.specs.Board.{MapView};
 ghost use Rattle.plain_file.specs.Board.{BoardView};
-ghost use Rattle.daemon_core.specs.Entries.{is_after, place_among, with_entry, with_entries, numbered_from, entries, listed};
-ghost use Rattle.daemon_core.specs.Requests.{read_dir};
-ghost use Rattle.daemon_core.specs.Promises.{Gives, IsWithin, world};
+ghost use Rattle.fuse_device.specs.Entries.{is_after, place_among, with_entry, with_entries, numbered_from, entries, listed};
+ghost use Rattle.fuse_device.specs.Requests.{read_dir};
+ghost use Rattle.fuse_device.specs.Promises.{Gives, IsWithin, world};
 
 use crate::daemon::Daemon;
-use crate::refusals::Refused;
-use crate::tables::MadeFile;
 use fuse_codec::{Dirent, MAX_TRANSFER, Reply, put_dirents};
+use fuse_device::{MadeFile, Refused};
 use fuse_wire::{Errno, ReadIn};
 use plain_file::{Blob, List, Memory};
 use std::alloc::Global;
@@ -18,7 +17,7 @@ const REGULAR: u32 = 8;
 
 impl Daemon {
     // READDIR.
-    #[tactic(auto, unfolding(crate::specs::Requests::read_dir, fuse_codec::specs::Replies::reply_parts, fuse_codec::specs::Replies::is_reply))]
+    #[tactic(auto, unfolding(fuse_device::specs::Requests::read_dir, fuse_codec::specs::Replies::reply_parts, fuse_codec::specs::Replies::is_reply))]
     pub(crate) fn read_dir(&self, alloc: Global, node: u64, r: &ReadIn) -> Result<Reply, Refused>
         ensures answer { (files : BoardView) (map : MapView) → Gives (world self.now files map) (read_dir (world self.now files map) node r.now) result (world self.now files map) }
         ensures room { IfOk result (λ reply. IsWithin (16 + r.now.size) reply) }
@@ -40,7 +39,7 @@ impl Daemon {
     }
 
     // The entries after so many, as many as fit.
-    #[tactic(auto, unfolding(crate::specs::Entries::entries))]
+    #[tactic(auto, unfolding(fuse_device::specs::Entries::entries))]
     fn listed(&self, alloc: Global, offset: u64, size: u32) -> Result<Blob, Memory>
         ensures value { IfOk result (λ b. b ≡ listed self.now offset size) }
         ensures within { IfOk result (λ b. length b ≤ size) }

@@ -2,14 +2,14 @@ ghost use Rattle.std.specs.Prelude.{◌≡◌, ◌<◌, ◌*◌, length, true, I
 ghost use Rattle.std.specs.List.{list_all};
 ghost use Rattle.page_map.specs.Board.{is_whole, may_clear};
 ghost use Rattle.plain_file.specs.Board.{BoardView};
-ghost use Rattle.daemon_core.specs.State.{cleared_window, all_cleared};
-ghost use Rattle.daemon_core.specs.Requests.{span_of, is_bad_setup, setup, remove, destroy};
-ghost use Rattle.daemon_core.specs.Promises.{Gives, IsWithin, MayClearAll, world};
+ghost use Rattle.fuse_device.specs.State.{cleared_window, all_cleared};
+ghost use Rattle.fuse_device.specs.Requests.{span_of, is_bad_setup, setup, remove, destroy};
+ghost use Rattle.fuse_device.specs.Promises.{Gives, IsWithin, MayClearAll, world};
 
 use crate::daemon::Daemon;
-use crate::refusals::Refused;
 use crate::transfers::is_past;
 use fuse_codec::Reply;
+use fuse_device::Refused;
 use fuse_wire::{Errno, RemoveOne, SetupIn};
 use page_map::{MapBoard, Mode, Span};
 
@@ -18,7 +18,7 @@ const PAGE_SIZE: u64 = 4096;
 
 impl Daemon {
     // SETUPMAPPING.
-    #[tactic(auto, using(crate::proofs::Clears::painted_len), unfolding(crate::specs::Requests::setup, fuse_codec::specs::Replies::reply_parts, fuse_codec::specs::Replies::is_reply))]
+    #[tactic(auto, using(fuse_device::proofs::Clears::painted_len), unfolding(fuse_device::specs::Requests::setup, fuse_codec::specs::Replies::reply_parts, fuse_codec::specs::Replies::is_reply))]
     pub(crate) fn setup<M: MapBoard>(
         &self,
         node: u64,
@@ -54,7 +54,7 @@ impl Daemon {
     }
 
     // REMOVEMAPPING. All intervals are judged before one is cleared.
-    #[tactic(auto, unfolding(crate::specs::Requests::remove, fuse_codec::specs::Replies::reply_parts, fuse_codec::specs::Replies::is_reply))]
+    #[tactic(auto, unfolding(fuse_device::specs::Requests::remove, fuse_codec::specs::Replies::reply_parts, fuse_codec::specs::Replies::is_reply))]
     pub(crate) fn remove<M: MapBoard>(
         &self,
         ones: &[RemoveOne],
@@ -76,7 +76,7 @@ impl Daemon {
     }
 
     // DESTROY.
-    #[tactic(auto, unfolding(crate::specs::Requests::destroy, fuse_codec::specs::Replies::reply_parts, fuse_codec::specs::Replies::is_reply))]
+    #[tactic(auto, unfolding(fuse_device::specs::Requests::destroy, fuse_codec::specs::Replies::reply_parts, fuse_codec::specs::Replies::is_reply))]
     pub(crate) fn destroy<M: MapBoard>(&mut self, map: &mut M) -> Result<Reply, Refused>
         requires pages { length (M.map map.old).table ≡ self.old.pages }
         requires may { MayClearAll self.old (M.map map.old) }

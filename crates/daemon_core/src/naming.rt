@@ -1,15 +1,15 @@
 ghost use Rattle.std.specs.Prelude.{◌≡◌, ◌<◌, length, true, IfOk, IfSome};
 ghost use Rattle.page_map.specs.Board.{MapView};
 ghost use Rattle.plain_file.specs.Board.{BoardView, IsReady};
-ghost use Rattle.daemon_core.specs.Checks.{may_open};
-ghost use Rattle.daemon_core.specs.Entries.{entry_of};
-ghost use Rattle.daemon_core.specs.Requests.{found, lookup, unlinked, unlink, opens_entry, makes_entry, created, create, is_dots, forget, batch_forget};
-ghost use Rattle.daemon_core.specs.Promises.{Gives, IsWithin, HasFiles, HasNext, world};
+ghost use Rattle.fuse_device.specs.Checks.{may_open};
+ghost use Rattle.fuse_device.specs.Entries.{entry_of};
+ghost use Rattle.fuse_device.specs.Requests.{found, lookup, unlinked, unlink, opens_entry, makes_entry, created, create, is_dots, forget, batch_forget};
+ghost use Rattle.fuse_device.specs.Promises.{Gives, IsWithin, HasFiles, HasNext, world};
 
 use crate::attributes::has_flag;
 use crate::daemon::Daemon;
-use crate::refusals::Refused;
 use fuse_codec::Reply;
+use fuse_device::Refused;
 use fuse_wire::{CreateIn, EntryOut, Errno, ForgetOne};
 use plain_file::{FileBoard, Name};
 
@@ -21,7 +21,7 @@ const MAX_FILES: usize = 16;
 
 impl Daemon {
     // A file's entry.
-    #[tactic(auto, unfolding(crate::specs::State::is_made))]
+    #[tactic(auto, unfolding(fuse_device::specs::State::is_made))]
     fn entry_of<F: FileBoard>(&self, i: usize, files: &mut F) -> EntryOut
         requires made { i < length self.now.made }
         requires there { i < length (F.board files.old).files }
@@ -61,7 +61,7 @@ impl Daemon {
     }
 
     // LOOKUP.
-    #[tactic(auto, unfolding(crate::specs::Requests::lookup))]
+    #[tactic(auto, unfolding(fuse_device::specs::Requests::lookup))]
     pub(crate) fn lookup<F: FileBoard>(
         &mut self,
         node: u64,
@@ -98,7 +98,7 @@ impl Daemon {
     }
 
     // UNLINK.
-    #[tactic(auto, unfolding(crate::specs::Requests::unlink))]
+    #[tactic(auto, unfolding(fuse_device::specs::Requests::unlink))]
     pub(crate) fn unlink(&mut self, node: u64, name: &[u8]) -> Result<Reply, Refused>
         ensures answer { (files : BoardView) (map : MapView) → Gives (world self.old files map) (unlink (world self.old files map) node name.now) result (world self.new files map) }
         ensures room { IfOk result (λ reply. IsWithin 16 reply) }
@@ -130,7 +130,7 @@ impl Daemon {
     }
 
     // The next file is made, under this name.
-    #[tactic(auto, using(fuse_codec::proofs::CleanReplies::body_sizes), unfolding(crate::specs::Entries::file_attr, fuse_codec::specs::Replies::reply_parts, fuse_codec::specs::Replies::is_reply))]
+    #[tactic(auto, using(fuse_codec::proofs::CleanReplies::body_sizes), unfolding(fuse_device::specs::Entries::file_attr, fuse_codec::specs::Replies::reply_parts, fuse_codec::specs::Replies::is_reply))]
     fn makes_entry<F: FileBoard>(&mut self, name: Name, files: &mut F) -> Result<Reply, Refused>
         requires few { length self.old.made < 16 }
         requires next { HasNext self.old (F.board files.old) }
@@ -184,7 +184,7 @@ impl Daemon {
     }
 
     // CREATE.
-    #[tactic(auto, unfolding(crate::specs::Requests::create))]
+    #[tactic(auto, unfolding(fuse_device::specs::Requests::create))]
     pub(crate) fn create<F: FileBoard>(
         &mut self,
         node: u64,
@@ -212,7 +212,7 @@ impl Daemon {
     }
 
     // FORGET.
-    #[tactic(auto, unfolding(crate::specs::Requests::forget, fuse_codec::specs::Replies::reply_parts, fuse_codec::specs::Replies::is_reply))]
+    #[tactic(auto, unfolding(fuse_device::specs::Requests::forget, fuse_codec::specs::Replies::reply_parts, fuse_codec::specs::Replies::is_reply))]
     pub(crate) fn forget(&mut self, node: u64, nlookup: u64) -> Result<Reply, Refused>
         ensures answer { (files : BoardView) (map : MapView) → Gives (world self.old files map) (forget (world self.old files map) node nlookup) result (world self.new files map) }
         ensures room { IfOk result (λ reply. IsWithin 16 reply) }
@@ -222,7 +222,7 @@ impl Daemon {
     }
 
     // BATCH_FORGET.
-    #[tactic(auto, unfolding(crate::specs::Requests::batch_forget, fuse_codec::specs::Replies::reply_parts, fuse_codec::specs::Replies::is_reply))]
+    #[tactic(auto, unfolding(fuse_device::specs::Requests::batch_forget, fuse_codec::specs::Replies::reply_parts, fuse_codec::specs::Replies::is_reply))]
     pub(crate) fn batch_forget(&mut self, ones: &[ForgetOne]) -> Result<Reply, Refused>
         ensures answer { (files : BoardView) (map : MapView) → Gives (world self.old files map) (batch_forget (world self.old files map) ones.now) result (world self.new files map) }
         ensures room { IfOk result (λ reply. IsWithin 16 reply) }

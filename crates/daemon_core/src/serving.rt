@@ -1,12 +1,12 @@
 ghost use Rattle.std.specs.Prelude.{◌≡◌, length, true, IfOk};
 ghost use Rattle.fuse_codec.specs.Grammar.{is_bounded};
-ghost use Rattle.daemon_core.specs.Requests.{answered, is_init, is_forget, served};
-ghost use Rattle.daemon_core.specs.Steps.{wanted_room};
-ghost use Rattle.daemon_core.specs.Promises.{Gives, IsWithin, CanServe, world};
+ghost use Rattle.fuse_device.specs.Requests.{answered, is_init, is_forget, served};
+ghost use Rattle.fuse_device.specs.Steps.{wanted_room};
+ghost use Rattle.fuse_device.specs.Promises.{Gives, IsWithin, CanServe, world};
 
 use crate::daemon::Daemon;
-use crate::refusals::Refused;
 use fuse_codec::{Message, Reply, Request};
+use fuse_device::Refused;
 use fuse_wire::Errno;
 use page_map::MapBoard;
 use plain_file::FileBoard;
@@ -14,7 +14,7 @@ use std::alloc::Global;
 
 impl Daemon {
     // Any request, once the session is started.
-    #[tactic(auto, using(crate::proofs::DataLaws::serves_data), unfolding(crate::specs::Requests::answered, crate::specs::Promises::Needs, crate::specs::DataSteps::is_data, fuse_codec::specs::Grammar::is_bounded, fuse_codec::specs::Grammar::kind_of, fuse_codec::specs::Grammar::asked, fuse_codec::specs::Grammar::form_room, fuse_codec::specs::Opcodes::reply_form))]
+    #[tactic(auto, using(fuse_device::proofs::DataLaws::serves_data), unfolding(fuse_device::specs::Requests::answered, fuse_device::specs::Promises::Needs, fuse_device::specs::DataSteps::is_data, fuse_codec::specs::Grammar::is_bounded, fuse_codec::specs::Grammar::kind_of, fuse_codec::specs::Grammar::asked, fuse_codec::specs::Grammar::form_room, fuse_codec::specs::Opcodes::reply_form))]
     fn answer<F: FileBoard, M: MapBoard>(
         &mut self,
         alloc: Global,
@@ -63,7 +63,7 @@ impl Daemon {
     /// the request is neither an INIT nor a forget, else the first check of the request that fails.
     /// `Memory` comes where an allocation was refused. After either the daemon, the files and the map
     /// are as they were.
-    #[tactic(auto, unfolding(crate::specs::Requests::served, crate::specs::Requests::is_forget, fuse_codec::specs::Grammar::kind_of, fuse_codec::specs::Grammar::asked, fuse_codec::specs::Grammar::form_room, fuse_codec::specs::Opcodes::reply_form, fuse_codec::specs::Replies::reply_parts, fuse_codec::specs::Replies::is_reply))]
+    #[tactic(auto, unfolding(fuse_device::specs::Requests::served, fuse_device::specs::Requests::is_forget, fuse_codec::specs::Grammar::kind_of, fuse_codec::specs::Grammar::asked, fuse_codec::specs::Grammar::form_room, fuse_codec::specs::Opcodes::reply_form, fuse_codec::specs::Replies::reply_parts, fuse_codec::specs::Replies::is_reply))]
     pub fn serve<F: FileBoard, M: MapBoard>(
         &mut self,
         alloc: Global,
@@ -90,7 +90,7 @@ impl Daemon {
 }
 
 // Whether a request is an INIT.
-#[tactic(auto, unfolding(crate::specs::Requests::is_init))]
+#[tactic(auto, unfolding(fuse_device::specs::Requests::is_init))]
 pub(crate) fn is_init(body: &Request) -> bool
     ensures { result ≡ is_init body.now }
 {
@@ -101,7 +101,7 @@ pub(crate) fn is_init(body: &Request) -> bool
 }
 
 // Whether a request has no reply.
-#[tactic(auto, unfolding(crate::specs::Requests::is_forget))]
+#[tactic(auto, unfolding(fuse_device::specs::Requests::is_forget))]
 fn is_forget(body: &Request) -> bool
     ensures { result ≡ is_forget body.now }
 {

@@ -2,13 +2,13 @@ ghost use Rattle.std.specs.Prelude.{◌≡◌, ◌≤◌, [], length, true, Err,
 ghost use Rattle.fuse_codec.specs.Grammar.{max_part, is_bounded};
 ghost use Rattle.fuse_codec.specs.Reading.{message_of};
 ghost use Rattle.fuse_codec.specs.Replies.{clean_reply};
-ghost use Rattle.daemon_core.specs.Steps.{wanted_room, errno_of, reply_to, is_forget_number, header_at, judged_message, judged, forgot, replied, device_step};
-ghost use Rattle.daemon_core.specs.Promises.{Gives, IsWithin, CanServe, CanStep, Steps, world};
+ghost use Rattle.fuse_device.specs.Steps.{wanted_room, errno_of, reply_to, is_forget_number, header_at, judged_message, judged, forgot, replied, device_step};
+ghost use Rattle.fuse_device.specs.Promises.{Gives, IsWithin, CanServe, CanStep, Steps, world};
 
 use crate::daemon::Daemon;
-use crate::refusals::Refused;
 use crate::serving::is_init;
 use fuse_codec::{BadRequest, MAX_TRANSFER, Message, Reply, Request, decode_request, put_reply};
+use fuse_device::Refused;
 use fuse_wire::{Errno, InHeader, OutHeader};
 use page_map::MapBoard;
 use plain_file::{Blob, FileBoard, Memory};
@@ -19,7 +19,7 @@ pub(crate) const MAX_REPLY: u64 = OutHeader::SIZE as u64 + MAX_TRANSFER as u64;
 
 impl Daemon {
     // Judges the session and the room for the reply, then serves the request.
-    #[tactic(auto, unfolding(crate::specs::Steps::judged_message))]
+    #[tactic(auto, unfolding(fuse_device::specs::Steps::judged_message))]
     fn judge<F: FileBoard, M: MapBoard>(
         &mut self,
         alloc: Global,
@@ -43,7 +43,7 @@ impl Daemon {
     }
 
     // The bytes that answer a request. They have their place before anything is done.
-    #[tactic(auto, using(fuse_codec::proofs::CleanReplies::reply_bound), unfolding(crate::specs::Steps::reply_to))]
+    #[tactic(auto, using(fuse_codec::proofs::CleanReplies::reply_bound), unfolding(fuse_device::specs::Steps::reply_to))]
     fn answer_message<F: FileBoard, M: MapBoard>(
         &mut self,
         alloc: Global,
@@ -68,7 +68,7 @@ impl Daemon {
     }
 
     // Decodes, judges and replies.
-    #[tactic(auto, using(crate::proofs::Decoded::decoded_bounded))]
+    #[tactic(auto, using(fuse_device::proofs::Decoded::decoded_bounded))]
     fn reply_chain<F: FileBoard, M: MapBoard>(
         &mut self,
         alloc: Global,
@@ -90,7 +90,7 @@ impl Daemon {
     }
 
     // Carries out what has no reply.
-    #[tactic(auto, using(crate::proofs::Decoded::decoded_bounded))]
+    #[tactic(auto, using(fuse_device::proofs::Decoded::decoded_bounded))]
     fn forget_chain<F: FileBoard, M: MapBoard>(
         &mut self,
         alloc: Global,
@@ -138,7 +138,7 @@ impl Daemon {
     /// Where the bytes are a request, the conditions of [`serve`](Daemon::serve) on the files and the
     /// map hold. `Memory` comes only from a refused allocation. Room for the reply is had before
     /// anything is done, so nothing has changed then.
-    #[tactic(auto, unfolding(crate::specs::Steps::device_step))]
+    #[tactic(auto, unfolding(fuse_device::specs::Steps::device_step))]
     pub fn serve_chain<F: FileBoard, M: MapBoard>(
         &mut self,
         alloc: Global,
@@ -195,7 +195,7 @@ pub(crate) fn wanted_room(body: &Request) -> u64
 }
 
 // The error that answers bytes which are no request.
-#[tactic(auto, unfolding(crate::specs::Steps::errno_of))]
+#[tactic(auto, unfolding(fuse_device::specs::Steps::errno_of))]
 pub(crate) fn errno_of(bad: BadRequest) -> Errno
     ensures { result ≡ errno_of bad }
 {
@@ -210,7 +210,7 @@ pub(crate) fn errno_of(bad: BadRequest) -> Errno
 }
 
 // Puts an error into room that is there.
-#[tactic(auto, unfolding(crate::specs::Steps::reply_to, fuse_codec::specs::Replies::reply_parts, fuse_codec::specs::Replies::is_reply))]
+#[tactic(auto, unfolding(fuse_device::specs::Steps::reply_to, fuse_codec::specs::Replies::reply_parts, fuse_codec::specs::Replies::is_reply))]
 pub(crate) fn put_error(out: &mut Vec<u8>, error: Errno, unique: u64)
     requires room { 16 ≤ vec_capacity out.old }
     requires empty { out.old.items ≡ [] }

@@ -1,21 +1,21 @@
 ghost use Rattle.std.specs.Prelude.{◌≡◌, ◌+◌, length, IfOk};
 ghost use Rattle.page_map.specs.Board.{MapView};
 ghost use Rattle.fuse_codec.specs.Grammar.{max_transfer};
-ghost use Rattle.daemon_core.specs.Checks.{is_past};
-ghost use Rattle.daemon_core.specs.Requests.{bytes_reply, applies, read, write};
-ghost use Rattle.daemon_core.specs.Promises.{Gives, IsWithin, world};
-ghost use Rattle.daemon_core.specs.DataSteps.{HasFile};
+ghost use Rattle.fuse_device.specs.Checks.{is_past};
+ghost use Rattle.fuse_device.specs.Requests.{bytes_reply, applies, read, write};
+ghost use Rattle.fuse_device.specs.Promises.{Gives, IsWithin, world};
+ghost use Rattle.fuse_device.specs.DataSteps.{HasFile};
 
 use crate::daemon::Daemon;
-use crate::refusals::Refused;
 use fuse_codec::{MAX_TRANSFER, Reply};
+use fuse_device::Refused;
 use fuse_wire::{Errno, ReadIn, WriteIn, WriteOut};
 use plain_file::{Answer, Blob, BoardRefusal, FileBoard, List, MAX_FILE, Op};
 use std::alloc::Global;
 
 impl Daemon {
     // READ.
-    #[tactic(auto, unfolding(crate::specs::Requests::read, crate::specs::Requests::bytes_reply, plain_file::specs::File::reach, plain_file::specs::File::answer, plain_file::specs::Board::file_answer, fuse_codec::specs::Replies::reply_parts, fuse_codec::specs::Replies::is_reply))]
+    #[tactic(auto, unfolding(fuse_device::specs::Requests::read, fuse_device::specs::Requests::bytes_reply, plain_file::specs::File::reach, plain_file::specs::File::answer, plain_file::specs::Board::file_answer, fuse_codec::specs::Replies::reply_parts, fuse_codec::specs::Replies::is_reply))]
     pub(crate) fn read<F: FileBoard>(
         &self,
         alloc: Global,
@@ -52,7 +52,7 @@ impl Daemon {
     }
 
     // WRITE of as many bytes as it says.
-    #[tactic(auto, using(fuse_codec::proofs::CleanReplies::body_sizes), unfolding(crate::specs::Requests::write, plain_file::specs::File::reach, fuse_codec::specs::Replies::reply_parts, fuse_codec::specs::Replies::is_reply))]
+    #[tactic(auto, using(fuse_codec::proofs::CleanReplies::body_sizes), unfolding(fuse_device::specs::Requests::write, plain_file::specs::File::reach, fuse_codec::specs::Replies::reply_parts, fuse_codec::specs::Replies::is_reply))]
     pub(crate) fn write<F: FileBoard>(
         &self,
         alloc: Global,
@@ -99,7 +99,7 @@ pub(crate) fn is_past(offset: u64, len: u64) -> bool
 }
 
 // The reply to a read.
-#[tactic(auto, unfolding(crate::specs::Requests::bytes_reply))]
+#[tactic(auto, unfolding(fuse_device::specs::Requests::bytes_reply))]
 fn bytes_reply(alloc: Global, answer: Answer) -> Reply
     ensures { result ≡ bytes_reply answer }
 {

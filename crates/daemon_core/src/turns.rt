@@ -2,7 +2,7 @@ ghost use Rattle.std.specs.Prelude.{◌≡◌, ◌≤◌, length, is_some};
 ghost use Rattle.fuse_codec.specs.Grammar.{max_part};
 ghost use Rattle.fuse_codec.specs.Opcodes.{opcode_of};
 ghost use Rattle.fuse_codec.specs.Reading.{write_of};
-ghost use Rattle.daemon_core.specs.DataSteps.{is_file_body, is_body_on_file, file_of, named_in, named_file};
+ghost use Rattle.fuse_device.specs.DataSteps.{is_file_body, is_body_on_file, file_of, named_in, named_file};
 
 use crate::daemon::Daemon;
 use crate::steps::header_at;
@@ -38,7 +38,7 @@ impl Daemon {
     /// It is a file exactly where the bytes are a request, which is READ, WRITE, GETATTR or SETATTR, and
     /// the request's node is a known file's: a made file that has a name, a lookup that wasn't given back,
     /// or an open handle. Nothing is allocated.
-    #[tactic(auto, using(crate::proofs::DataLaws::short_named, crate::proofs::DataLaws::wrong_header_named, crate::proofs::DataLaws::whole_named))]
+    #[tactic(auto, using(fuse_device::proofs::DataLaws::short_named, fuse_device::proofs::DataLaws::wrong_header_named, fuse_device::proofs::DataLaws::whole_named))]
     pub fn named_file(&self, readable: &[u8]) -> Option<u32>
         requires within { length readable.now ≤ max_part }
         ensures { result ≡ named_file self.now readable.now }
@@ -56,7 +56,7 @@ impl Daemon {
 }
 
 // Whether bytes are the body of a request for a file's bytes or attributes.
-#[tactic(auto, unfolding(crate::specs::DataSteps::is_file_body))]
+#[tactic(auto, unfolding(fuse_device::specs::DataSteps::is_file_body))]
 fn is_file_body(opcode: Opcode, body: &[u8]) -> bool
     ensures { result ≡ is_file_body opcode body.now }
 {

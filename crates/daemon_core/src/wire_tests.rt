@@ -1,4 +1,4 @@
-ghost use Rattle.daemon_core.specs.Promises.{IsServable, world};
+ghost use Rattle.fuse_device.specs.Promises.{IsServable, world};
 
 use super::Daemon;
 use crate::test_chains::{BEGIN, bytes_of, cut, device, number, odd_line, serve_bytes};

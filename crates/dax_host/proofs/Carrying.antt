@@ -2,9 +2,9 @@
 use Rattle.std.proofs.Common.{◌≡◌, sym, subst, ℕ, List, inl, inr}
 use Rattle.plain_file.specs.Board.{BoardView}
 use Rattle.page_map.specs.Board.{MapView}
-use Rattle.daemon_core.specs.State.{State, World}
-use Rattle.daemon_core.specs.Steps.{device_step}
-use Rattle.daemon_core.specs.Promises.{CanStep, world}
+use Rattle.fuse_device.specs.State.{State, World}
+use Rattle.fuse_device.specs.Steps.{device_step}
+use Rattle.fuse_device.specs.Promises.{CanStep, world}
 use Rattle.guest_wire.specs.Wires.{boards, sending, IsStepOrNot}
 use Rattle.guest_wire.specs.Keeps.{KeepsBoards}
 use Rattle.guest_wire.proofs.StepKeeps.{KeepsBoards-same, KeepsBoards-device_step}

@@ -1,7 +1,7 @@
 ghost use Rattle.std.specs.Prelude.{◌≡◌, ◌≤◌, length, IfOk, OnOk, OnErr};
 ghost use Rattle.vring.specs.Chain.{max_part};
-ghost use Rattle.daemon_core.specs.Steps.{device_step};
-ghost use Rattle.daemon_core.specs.Promises.{CanStep, world};
+ghost use Rattle.fuse_device.specs.Steps.{device_step};
+ghost use Rattle.fuse_device.specs.Promises.{CanStep, world};
 ghost use Rattle.guest_wire.specs.Wires.{sending, IsStepOrNot};
 
 use crate::transport::{answer, deliver, device_of, driver_of, give_up, room_in};
@@ -53,7 +53,7 @@ impl Queue {
     }
 
     // Carries a request to the daemon and the answer back.
-    #[tactic(auto, using(daemon_core::proofs::Answering::device_step_fits))]
+    #[tactic(auto, using(fuse_device::proofs::Answering::device_step_fits))]
     pub(crate) fn carry<F: FileBoard, M: MapBoard>(
         &mut self,
         alloc: Global,

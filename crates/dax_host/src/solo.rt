@@ -1,5 +1,5 @@
 ghost use Rattle.std.specs.Prelude.{◌≡◌, true, None, IfOk};
-ghost use Rattle.daemon_core.specs.Promises.{world};
+ghost use Rattle.fuse_device.specs.Promises.{world};
 ghost use Rattle.guest_wire.specs.Wires.{IsStep, world_at};
 ghost use Rattle.dax_host.specs.Solo.{solo_wire};
 

@@ -1,7 +1,7 @@
 ghost use Rattle.std.specs.Prelude.{◌≡◌, ◌≤◌, length, IfOk};
 ghost use Rattle.std.specs.List.{IsDistinct};
 ghost use Rattle.std.specs.Str.{bytes_eq};
-ghost use Rattle.daemon_core.specs.Promises.{IsServable, world};
+ghost use Rattle.fuse_device.specs.Promises.{IsServable, world};
 
 use super::*;
 use daemon_core::Daemon;
@@ -14,7 +14,7 @@ use std::alloc::Global;
 use std::test::Fail;
 
 // One file's name: "a".
-#[tactic(auto, using(daemon_core::proofs::Servable::one_distinct, daemon_core::proofs::Servable::none_distinct))]
+#[tactic(auto, using(fuse_device::proofs::Servable::one_distinct, fuse_device::proofs::Servable::none_distinct))]
 fn one_name(alloc: Global) -> Result<List<Name>, Memory>
     ensures few { IfOk result (λ names. length names ≤ 16) }
     ensures different { IfOk result (λ names. IsDistinct bytes_eq names) }
@@ -27,7 +27,7 @@ fn one_name(alloc: Global) -> Result<List<Name>, Memory>
 }
 
 // A device with file "a" and a window of 2,048 pages, which are four ranges.
-#[tactic(auto, using(daemon_core::proofs::Servable::servable_at_start))]
+#[tactic(auto, using(fuse_device::proofs::Servable::servable_at_start))]
 fn device(alloc: Global) -> Result<(Daemon, PlainFiles, PageMap), Memory>
     ensures { IfOk result (λ r. IsServable (world r.0 r.1 r.2)) }
 {

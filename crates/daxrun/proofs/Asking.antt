@@ -12,11 +12,11 @@ use Rattle.fuse_wire.specs.declared.inits.InitIn.{InitIn}
 use Rattle.fuse_wire.specs.declared.inits.InitOut.{InitOut}
 use Rattle.fuse_wire.specs.declared.opens.OpenOut.{OpenOut}
 use Rattle.fuse_wire.specs.declared.records.WriteOut.{WriteOut}
-use Rattle.daemon_core.specs.State.{World, is_made, named, begun, looked_up, with_open}
-use Rattle.daemon_core.specs.Checks.{is_known, may_open}
-use Rattle.daemon_core.specs.Entries.{session_flags, init_out_with, entry_of, open_out_of}
-use Rattle.daemon_core.specs.OpenFiles.{HasOpenFile}
-use Rattle.daemon_core.proofs.OpenHandles.{is_file, init_succeeds, lookup_succeeds, open_succeeds, read_succeeds, write_succeeds}
+use Rattle.fuse_device.specs.State.{World, is_made, named, begun, looked_up, with_open}
+use Rattle.fuse_device.specs.Checks.{is_known, may_open}
+use Rattle.fuse_device.specs.Entries.{session_flags, init_out_with, entry_of, open_out_of}
+use Rattle.fuse_device.specs.OpenFiles.{HasOpenFile}
+use Rattle.fuse_device.proofs.OpenHandles.{is_file, init_succeeds, lookup_succeeds, open_succeeds, read_succeeds, write_succeeds}
 use Rattle.guest_wire.specs.declared.driver.FileRef.{FileRef}
 use Rattle.guest_wire.specs.declared.wires.WireRefusal.{WireRefusal}
 use Rattle.guest_wire.specs.declared.wires.WireRefusal.TheVariants as refusals

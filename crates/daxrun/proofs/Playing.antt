@@ -15,10 +15,10 @@ use Rattle.plain_file.proofs.Grows.{bytes-grown}
 use Rattle.plain_file.proofs.OneFile.{file_at-with_file}
 use Rattle.page_map.specs.Board.{MapView}
 use Rattle.page_map.specs.Plain.{new_map}
-use Rattle.daemon_core.specs.State.{State, new_state, begun, looked_up, named, is_made}
-use Rattle.daemon_core.specs.Checks.{is_known, may_open}
-use Rattle.daemon_core.specs.Promises.{IsServable, world}
-use Rattle.daemon_core.proofs.Servable.{servable_at_start}
+use Rattle.fuse_device.specs.State.{State, new_state, begun, looked_up, named, is_made}
+use Rattle.fuse_device.specs.Checks.{is_known, may_open}
+use Rattle.fuse_device.specs.Promises.{IsServable, world}
+use Rattle.fuse_device.proofs.Servable.{servable_at_start}
 use Rattle.guest_wire.specs.declared.driver.FileRef.{FileRef}
 use Rattle.guest_wire.specs.Wires.{WireView, boards}
 use Rattle.daxrun.specs.Play.{IsPlayed, IsOpened, firsts_of}

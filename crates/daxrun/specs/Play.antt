@@ -5,7 +5,7 @@ use Rattle.plain_file.specs.declared.operations.Way.TheVariants.{Req}
 use Rattle.plain_file.specs.File.{after, answer, first_bytes}
 use Rattle.plain_file.specs.declared.operations.First.{First}
 use Rattle.plain_file.specs.Board.{BoardView, file_at}
-use Rattle.daemon_core.specs.OpenFiles.{HasOpenFile}
+use Rattle.fuse_device.specs.OpenFiles.{HasOpenFile}
 use Rattle.guest_wire.specs.declared.driver.FileRef.{FileRef}
 use Rattle.guest_wire.specs.Wires.{WireView, Boards}
 use Rattle.daxrun.specs.Requests.{IsLive}

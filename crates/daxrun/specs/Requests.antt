@@ -1,6 +1,6 @@
 -- What the requests of a run rest on.
 use Rattle.std.specs.Prelude.{◌≡◌, true, Result, Ok, Err}
-use Rattle.daemon_core.specs.Promises.{IsServable}
+use Rattle.fuse_device.specs.Promises.{IsServable}
 use Rattle.guest_wire.specs.declared.wires.WireRefusal.{WireRefusal}
 use Rattle.guest_wire.specs.declared.wires.WireRefusal.TheVariants as refusals
 use Rattle.guest_wire.specs.Wires.{WireView, Boards, world_at}

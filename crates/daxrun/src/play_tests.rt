@@ -2,7 +2,7 @@ ghost use Rattle.std.specs.Prelude.{◌≡◌, ◌≤◌, [], ◌∷◌, length,
 ghost use Rattle.std.specs.List.{AllByRecursion};
 ghost use Rattle.plain_file.specs.File.{max_file};
 ghost use Rattle.plain_file.specs.Board.{file_at, size_of};
-ghost use Rattle.daemon_core.specs.State.{new_state};
+ghost use Rattle.fuse_device.specs.State.{new_state};
 ghost use Rattle.guest_wire.specs.Wires.{boards};
 ghost use Rattle.daxrun.specs.Play.{IsPlayed};
 ghost use Rattle.daxrun.specs.Requests.{IsLive};

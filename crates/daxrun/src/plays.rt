@@ -3,7 +3,7 @@ ghost use Rattle.std.specs.List.{AllByRecursion};
 ghost use Rattle.plain_file.specs.File.{max_file, after, answer};
 ghost use Rattle.plain_file.specs.Board.{file_at, bytes_now, size_of, applied};
 ghost use Rattle.plain_file.specs.Plain.{new_board};
-ghost use Rattle.daemon_core.specs.State.{new_state};
+ghost use Rattle.fuse_device.specs.State.{new_state};
 ghost use Rattle.guest_wire.specs.Wires.{boards};
 ghost use Rattle.daxrun.specs.Requests.{IsLive};
 ghost use Rattle.daxrun.specs.Script.{IsCall, IsFirstForm, max_calls, op_of};
@@ -64,7 +64,7 @@ fn play_file(alloc: Global, file: &FileLine, guests: &[List<Call>]) -> Result<Tr
 }
 
 // The daemon of a file of this name, without a window.
-#[tactic(auto, using(daemon_core::proofs::Servable::one_distinct))]
+#[tactic(auto, using(fuse_device::proofs::Servable::one_distinct))]
 pub(crate) fn daemon(alloc: Global, name: &Name) -> Result<Daemon, Memory>
     ensures { IfOk result (λ d. d ≡ new_state 0 (name.now ∷ [])) }
 {

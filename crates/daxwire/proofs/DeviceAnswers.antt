@@ -8,9 +8,9 @@ use Rattle.fuse_codec.specs.Grammar.{max_part}
 use Rattle.fuse_codec.specs.Opcodes.{number, opcode_of, reply_form}
 use Rattle.fuse_codec.specs.Replies.{answered, answer_form}
 use Rattle.fuse_codec.specs.declared.opcodes.ReplyForm.TheVariants as forms
-use Rattle.daemon_core.specs.State.{World}
-use Rattle.daemon_core.specs.Steps.{device_step}
-use Rattle.daemon_core.proofs.Answering.{AnswersTo, device_step_replies}
+use Rattle.fuse_device.specs.State.{World}
+use Rattle.fuse_device.specs.Steps.{device_step}
+use Rattle.fuse_device.proofs.Answering.{AnswersTo, device_step_replies}
 use Rattle.vring.specs.declared.chains.Piece.{Piece}
 use Rattle.vring.specs.declared.faults.NoRoom.{NoRoom}
 use Rattle.vring.specs.Pieces.{total, bytes_of, gathered, Scatters}

@@ -7,7 +7,7 @@ use Rattle.vring.specs.Ring.{RingView, new_ring}
 use Rattle.vring.proofs.LayoutLemmas.{layout_if}
 use Rattle.fuse_wire.specs.Records.{u16_at, u32_at, u64_at}
 use Rattle.daxwire.specs.RingImage.{DeviceView, is_image, image_header_len, device_in, image_ring}
-use Rattle.daemon_core.specs.State.{World}
+use Rattle.fuse_device.specs.State.{World}
 use Rattle.daxwire.specs.Serve.{first_world}
 
 made_by : (b : Bool) (x r : RingView) → Some r ≡ cond b (Some x) None → (b ≡ true) × (r ≡ x)

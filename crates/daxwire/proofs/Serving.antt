@@ -1,11 +1,11 @@
 -- What stays true of the device that serves a stream.
 use Rattle.std.proofs.Common.{◌≡◌, ◌∙◌, ap, refl, arith, ℕ, List, [], ◌∷◌, length, length-set, replicate, take, Result, Ok, Err, OnOk, OnErr}
 use Rattle.std.proofs.lemmas.List.{length-replicate}
-use Rattle.daemon_core.specs.Promises.{world}
-use Rattle.daemon_core.specs.State.{State, World, new_state}
-use Rattle.daemon_core.specs.Steps.{device_step}
-use Rattle.daemon_core.proofs.Mapped.{NamesFiles-device_step, NamesFiles-new_map}
-use Rattle.daemon_core.proofs.Servable.{IsServable-device_step, servable_at_start}
+use Rattle.fuse_device.specs.Promises.{world}
+use Rattle.fuse_device.specs.State.{State, World, new_state}
+use Rattle.fuse_device.specs.Steps.{device_step}
+use Rattle.fuse_device.proofs.Mapped.{NamesFiles-device_step, NamesFiles-new_map}
+use Rattle.fuse_device.proofs.Servable.{IsServable-device_step, servable_at_start}
 use Rattle.page_map.specs.Board.{MapView}
 use Rattle.page_map.specs.Plain.{new_map}
 use Rattle.plain_file.specs.Board.{BoardView, applied, entry_of, file_at, with_own}

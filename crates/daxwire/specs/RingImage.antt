@@ -2,7 +2,7 @@
 use Rattle.std.specs.Prelude.{ℕ, ◌+◌, ◌==◌, Bool, ◌&&◌, nat_le, List, length, take, drop, codes, Option, None, option_map, if◌then◌else◌}
 use Rattle.std.specs.Str.{bytes_eq}
 use Rattle.fuse_wire.specs.Records.{u16_at, u32_at, u64_at}
-use Rattle.daemon_core.specs.State.{World}
+use Rattle.fuse_device.specs.State.{World}
 use Rattle.vring.specs.Bytes.{max_memory}
 use Rattle.vring.specs.Ring.{RingView, new_ring}
 use Rattle.vring.specs.declared.layouts.Layout.{Layout}

@@ -13,7 +13,7 @@ use Rattle.fuse_codec.specs.declared.opcodes.ReplyForm.TheVariants as forms
 use Rattle.fuse_codec.specs.declared.replies.Reply.{Reply}
 use Rattle.fuse_codec.specs.declared.errors.BadReply.{BadReply}
 use Rattle.fuse_text.specs.Lines.{reply_line}
-use Rattle.daemon_core.specs.Steps.{Step, device_step, header_at}
+use Rattle.fuse_device.specs.Steps.{Step, device_step, header_at}
 use Rattle.vring.specs.declared.chains.Chain.{Chain}
 use Rattle.vring.specs.declared.faults.RingFault.{RingFault}
 use Rattle.vring.specs.declared.faults.RingFault.TheVariants as faults

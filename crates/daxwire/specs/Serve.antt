@@ -1,9 +1,9 @@
 -- What `serve` writes: one output frame for each frame, by what the device and its window are then.
 use Rattle.std.specs.Prelude.{◌≡◌, ℕ, ◌+◌, ◌*◌, List, [], ◌∷◌, ◌++◌, length, drop, replicate, Option, Some, None}
 use Rattle.std.specs.Int.{w32, w64, to_le_bytes}
-use Rattle.daemon_core.specs.Promises.{IsServable, world}
-use Rattle.daemon_core.specs.State.{World, new_state}
-use Rattle.daemon_core.specs.Steps.{Step, device_step}
+use Rattle.fuse_device.specs.Promises.{IsServable, world}
+use Rattle.fuse_device.specs.State.{World, new_state}
+use Rattle.fuse_device.specs.Steps.{Step, device_step}
 use Rattle.page_map.specs.Plain.{new_map}
 use Rattle.plain_file.specs.Plain.{new_board}
 use Rattle.plain_file.specs.declared.operations.First.{First}

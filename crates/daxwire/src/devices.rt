@@ -1,7 +1,7 @@
 ghost use Rattle.std.specs.Prelude.{◌≡◌, ◌≤◌, length, IfOk, OnOk};
 ghost use Rattle.fuse_codec.specs.Grammar.{max_part};
-ghost use Rattle.daemon_core.specs.Promises.{world};
-ghost use Rattle.daemon_core.specs.Steps.{device_step};
+ghost use Rattle.fuse_device.specs.Promises.{world};
+ghost use Rattle.fuse_device.specs.Steps.{device_step};
 ghost use Rattle.window_access.specs.Access.{Loads, Stores};
 ghost use Rattle.daxwire.specs.RingText.{IsAnswer};
 ghost use Rattle.daxwire.specs.Serve.{first_world};
@@ -23,8 +23,8 @@ pub struct Device {
 }
 
 impl Model for Device {
-    ghost use Rattle.daemon_core.specs.Promises.{world};
-    ghost use Rattle.daemon_core.specs.State.{World};
+    ghost use Rattle.fuse_device.specs.Promises.{world};
+    ghost use Rattle.fuse_device.specs.State.{World};
     ghost use Rattle.daxwire.specs.Serve.{IsServing};
 
     ghost Value = { World };

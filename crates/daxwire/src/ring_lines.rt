@@ -5,7 +5,7 @@ ghost use Rattle.sha2.specs.Sha256.{sha256};
 ghost use Rattle.fuse_codec.specs.Grammar.{max_part};
 ghost use Rattle.fuse_codec.specs.Replies.{answer_form};
 ghost use Rattle.fuse_codec.specs.Reading.{message_of};
-ghost use Rattle.daemon_core.specs.Steps.{header_at};
+ghost use Rattle.fuse_device.specs.Steps.{header_at};
 ghost use Rattle.daxwire.specs.Show.{chain_line};
 ghost use Rattle.daxwire.specs.RingText.{heading, read_form, reply_in, line_of_read, answer_line, lines_of, IsAnswer, fault_name, last_line};
 ghost use Rattle.vring.specs.Pieces.{total};

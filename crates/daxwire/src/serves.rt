@@ -1,6 +1,6 @@
 ghost use Rattle.std.specs.Prelude.{◌≡◌, ◌≤◌, ◌++◌, ◌∷◌, [], length, IfOk, OnOk};
 ghost use Rattle.fuse_codec.specs.Grammar.{max_part};
-ghost use Rattle.daemon_core.specs.Steps.{device_step};
+ghost use Rattle.fuse_device.specs.Steps.{device_step};
 ghost use Rattle.daxwire.specs.Frames.{front_len, IsBounded};
 ghost use Rattle.daxwire.specs.Serve.{Makes, chain_output, fault_output, first_world, front_step, load_step, refusal_number, store_step};
 

@@ -16,13 +16,13 @@ use Rattle.fuse_codec.specs.declared.opcodes.ReplyForm.{ReplyForm}
 use Rattle.fuse_codec.specs.declared.replies.Reply.{Reply}
 use Rattle.fuse_codec.specs.declared.replies.Reply.TheVariants as replies
 use Rattle.fuse_codec.proofs.CleanReading.{ReadsTo}
-use Rattle.daemon_core.specs.State.{World}
-use Rattle.daemon_core.specs.OpenFiles.{Succeeds}
-use Rattle.daemon_core.specs.Requests.{is_forget}
-use Rattle.daemon_core.specs.Steps.{Step, wanted_room, device_step}
-use Rattle.daemon_core.proofs.Answering.{device_step_fits, device_step_answers}
-use Rattle.daemon_core.proofs.OpenHandles.{device_step-succeeds}
-use Rattle.daemon_core.proofs.Receiving.{clean_reply_again}
+use Rattle.fuse_device.specs.State.{World}
+use Rattle.fuse_device.specs.OpenFiles.{Succeeds}
+use Rattle.fuse_device.specs.Requests.{is_forget}
+use Rattle.fuse_device.specs.Steps.{Step, wanted_room, device_step}
+use Rattle.fuse_device.proofs.Answering.{device_step_fits, device_step_answers}
+use Rattle.fuse_device.proofs.OpenHandles.{device_step-succeeds}
+use Rattle.fuse_device.proofs.Receiving.{clean_reply_again}
 use Rattle.guest_wire.specs.Wires.{WireView, Boards, Sent, world_at, IsStep}
 use Rattle.guest_wire.specs.Requests.{sent}
 use Rattle.guest_wire.specs.Answers.{Answers, JudgesOrNot, Receives, SaysItself, Succeeded, heard, numbered}

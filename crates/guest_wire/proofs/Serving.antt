@@ -6,10 +6,10 @@ use Rattle.page_map.specs.Board.{MapView}
 use Rattle.fuse_codec.specs.declared.messages.Message.{Message}
 use Rattle.fuse_codec.specs.declared.messages.Request.{Request}
 use Rattle.fuse_codec.specs.declared.replies.Reply.{Reply}
-use Rattle.daemon_core.specs.State.{State, World}
-use Rattle.daemon_core.specs.Steps.{device_step}
-use Rattle.daemon_core.specs.Promises.{CanStep, IsServable, world}
-use Rattle.daemon_core.proofs.Servable.{IsServable-device_step, servable_serves}
+use Rattle.fuse_device.specs.State.{State, World}
+use Rattle.fuse_device.specs.Steps.{device_step}
+use Rattle.fuse_device.specs.Promises.{CanStep, IsServable, world}
+use Rattle.fuse_device.proofs.Servable.{IsServable-device_step, servable_serves}
 use Rattle.guest_wire.specs.Wires.{WireView, Boards, Sent, boards, world_at, IsStep, IsStepOrNot}
 use Rattle.guest_wire.specs.Keeps.{KeepsBoards}
 use Rattle.guest_wire.specs.Requests.{CanAsk, sent}

@@ -21,12 +21,12 @@ use Rattle.plain_file.specs.declared.operations.Op.{Op}
 use Rattle.plain_file.proofs.OneFile.{file_at-with_file, file_at-with_other}
 use Rattle.page_map.specs.Board.{MapView, wiped, painted, is_whole}
 use Rattle.page_map.specs.declared.pages.Span.{Span}
-use Rattle.daemon_core.specs.State.{State, World, grants, cleared_window, all_cleared, ended}
-use Rattle.daemon_core.specs.Checks.{Outcome, refuse}
-use Rattle.daemon_core.specs.Requests.{done, applies, attr_of, opens, closes, found, unlinked, opens_entry, makes_entry, created, resizes, span_of, is_bad_setup, init, destroy, getattr, setattr, open_file, open_dir, release, release_dir, sync, fallocate, read, write, lookup, unlink, create, forget, batch_forget, read_dir, setup, remove, answered, served}
-use Rattle.daemon_core.specs.Steps.{Step, judged_message, judged, forgot, replied, header_at, is_forget_number, device_step}
-use Rattle.daemon_core.specs.Promises.{CanStep, world}
-use Rattle.daemon_core.proofs.Clears.{first_of_both, rest_of_both, wiped_len, painted_len, whole_window}
+use Rattle.fuse_device.specs.State.{State, World, grants, cleared_window, all_cleared, ended}
+use Rattle.fuse_device.specs.Checks.{Outcome, refuse}
+use Rattle.fuse_device.specs.Requests.{done, applies, attr_of, opens, closes, found, unlinked, opens_entry, makes_entry, created, resizes, span_of, is_bad_setup, init, destroy, getattr, setattr, open_file, open_dir, release, release_dir, sync, fallocate, read, write, lookup, unlink, create, forget, batch_forget, read_dir, setup, remove, answered, served}
+use Rattle.fuse_device.specs.Steps.{Step, judged_message, judged, forgot, replied, header_at, is_forget_number, device_step}
+use Rattle.fuse_device.specs.Promises.{CanStep, world}
+use Rattle.fuse_device.proofs.Clears.{first_of_both, rest_of_both, wiped_len, painted_len, whole_window}
 use Rattle.std.proofs.lemmas.Grind.{common_steps}
 use Rattle.guest_wire.specs.Wires.{boards}
 use Rattle.guest_wire.specs.Keeps.{KeepsFile, KeepsFiles, KeepsPages, KeepsBoards}

@@ -8,8 +8,8 @@ use Rattle.fuse_codec.specs.declared.errors.BadReply.{BadReply}
 use Rattle.fuse_codec.specs.declared.messages.Message.{Message}
 use Rattle.fuse_codec.specs.declared.replies.Reply.{Reply}
 use Rattle.fuse_codec.specs.declared.replies.Reply.TheVariants as replies
-use Rattle.daemon_core.specs.State.{World}
-use Rattle.daemon_core.specs.Steps.{wanted_room}
+use Rattle.fuse_device.specs.State.{World}
+use Rattle.fuse_device.specs.Steps.{wanted_room}
 use Rattle.guest_wire.specs.declared.wires.WireRefusal.{WireRefusal}
 use Rattle.guest_wire.specs.declared.wires.WireRefusal.TheVariants as refusals
 use Rattle.plain_file.specs.Counts.{Rose}

@@ -1,6 +1,6 @@
 -- A wire in memory that gives what it was told to.
 use Rattle.std.specs.Prelude.{ℕ, ◌+◌, ◌-◌, ◌^◌, min, false, List, [], ◌∷◌, None, Result, Ok, Err}
-use Rattle.daemon_core.specs.State.{new_state}
+use Rattle.fuse_device.specs.State.{new_state}
 use Rattle.guest_wire.specs.declared.wires.WireError.{WireError}
 use Rattle.guest_wire.specs.declared.wires.WireError.TheVariants as errors
 use Rattle.guest_wire.specs.declared.fake.WireStep.{WireStep}

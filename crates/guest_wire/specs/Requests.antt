@@ -9,8 +9,8 @@ use Rattle.fuse_codec.specs.declared.messages.Request.{Request}
 use Rattle.fuse_codec.specs.declared.messages.Request.TheVariants as asks
 use Rattle.page_map.specs.declared.pages.Mode.{Mode}
 use Rattle.page_map.specs.declared.pages.Mode.TheVariants as modes
-use Rattle.daemon_core.specs.Steps.{wanted_room}
-use Rattle.daemon_core.specs.Promises.{CanServe}
+use Rattle.fuse_device.specs.Steps.{wanted_room}
+use Rattle.fuse_device.specs.Promises.{CanServe}
 use Rattle.guest_wire.specs.declared.driver.FileRef.{FileRef}
 use Rattle.guest_wire.specs.Wires.{WireView, Boards, Sent}
 

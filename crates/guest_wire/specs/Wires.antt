@@ -3,9 +3,9 @@ use Rattle.std.specs.Prelude.{◌≡◌, ℕ, ◌≤◌, Bool, true, List, Optio
 use Rattle.plain_file.specs.Board.{BoardView}
 use Rattle.plain_file.specs.Counts.{Rose}
 use Rattle.page_map.specs.Board.{MapView}
-use Rattle.daemon_core.specs.State.{State, World}
-use Rattle.daemon_core.specs.Steps.{device_step}
-use Rattle.daemon_core.specs.Promises.{CanStep, world}
+use Rattle.fuse_device.specs.State.{State, World}
+use Rattle.fuse_device.specs.Steps.{device_step}
+use Rattle.fuse_device.specs.Promises.{CanStep, world}
 use Rattle.guest_wire.specs.declared.wires.WireError.{WireError}
 use Rattle.guest_wire.specs.declared.wires.WireError.TheVariants as errors
 

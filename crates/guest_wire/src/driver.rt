@@ -6,7 +6,7 @@ ghost use Rattle.fuse_codec.specs.ReplyReading.{reply_of, GivesReply};
 ghost use Rattle.fuse_codec.specs.declared.errors.BadReply.{BadReply};
 ghost use Rattle.fuse_codec.specs.declared.opcodes.ReplyForm.{ReplyForm};
 ghost use Rattle.fuse_codec.specs.declared.replies.Reply.{Reply};
-ghost use Rattle.daemon_core.specs.Steps.{wanted_room};
+ghost use Rattle.fuse_device.specs.Steps.{wanted_room};
 ghost use Rattle.guest_wire.specs.Wires.{boards, KeepsWire};
 ghost use Rattle.guest_wire.specs.Keeps.{KeepsBoards};
 ghost use Rattle.guest_wire.specs.Requests.{next_number, message, CanAsk};

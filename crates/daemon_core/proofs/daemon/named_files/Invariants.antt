@@ -1,5 +1,5 @@
 use Rattle.std.proofs.Common.{◌≡◌, map, take}
-use Rattle.daemon_core.specs.State.{new_file}
+use Rattle.fuse_device.specs.State.{new_file}
 use Rattle.daemon_core.proofs.daemon.named_files.Given as goal
 
 abbrev pub invariant-loop-name : goal.invariant-loop-name

@@ -1,4 +1,4 @@
-use Rattle.daemon_core.proofs.DataLaws.{IsServable-serve_chain_data, servable_data}
+use Rattle.fuse_device.proofs.DataLaws.{IsServable-serve_chain_data, servable_data}
 use Rattle.daemon_core.proofs.data_tests.serve.Goals as goal
 
 pub returns : goal.returns

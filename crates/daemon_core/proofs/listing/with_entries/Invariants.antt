@@ -1,5 +1,5 @@
 use Rattle.std.proofs.Common.{◌≡◌, ◌+◌, ◌≤◌, [], length}
-use Rattle.daemon_core.specs.Entries.{with_entries}
+use Rattle.fuse_device.specs.Entries.{with_entries}
 use Rattle.daemon_core.proofs.listing.with_entries.Given as goal
 
 abbrev pub invariant-loop-file : goal.invariant-loop-file

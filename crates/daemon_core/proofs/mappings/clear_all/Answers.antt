@@ -1,8 +1,8 @@
 use Rattle.std.proofs.Common.{◌≡◌, ◌∙◌, ap, refl, length, sym, ◌∷◌, List}
 use Rattle.fuse_wire.specs.declared.mappings.RemoveOne.{RemoveOne}
 use Rattle.page_map.specs.Board.{MapView}
-use Rattle.daemon_core.specs.State.{all_cleared}
-use Rattle.daemon_core.proofs.Clears.{clear_step, first_clearable, wiped_len}
+use Rattle.fuse_device.specs.State.{all_cleared}
+use Rattle.fuse_device.proofs.Clears.{clear_step, first_clearable, wiped_len}
 use Rattle.daemon_core.proofs.mappings.clear_all.Goals as goal
 
 pub loop-one-preserved : goal.loop-one-preserved

@@ -1,6 +1,6 @@
 use Rattle.std.proofs.Common.{◌≡◌, length}
-use Rattle.daemon_core.specs.State.{all_cleared}
-use Rattle.daemon_core.proofs.Clears.{AreClearable}
+use Rattle.fuse_device.specs.State.{all_cleared}
+use Rattle.fuse_device.proofs.Clears.{AreClearable}
 use Rattle.daemon_core.proofs.mappings.clear_all.Given as goal
 
 abbrev pub invariant-loop-one : goal.invariant-loop-one

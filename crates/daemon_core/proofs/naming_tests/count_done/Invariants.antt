@@ -1,4 +1,4 @@
-use Rattle.daemon_core.specs.Promises.{IsServable, world}
+use Rattle.fuse_device.specs.Promises.{IsServable, world}
 use Rattle.daemon_core.proofs.naming_tests.count_done.Given as goal
 
 abbrev pub invariant-loop-turn : goal.invariant-loop-turn

@@ -1,4 +1,4 @@
-use Rattle.daemon_core.specs.Promises.{IsServable, world}
+use Rattle.fuse_device.specs.Promises.{IsServable, world}
 use Rattle.daemon_core.proofs.test_chains.odd_line.Given as goal
 
 abbrev pub invariant-loop-line : goal.invariant-loop-line

@@ -1,4 +1,4 @@
-use Rattle.daemon_core.proofs.Servable.{IsServable-serve_chain, servable_steps}
+use Rattle.fuse_device.proofs.Servable.{IsServable-serve_chain, servable_steps}
 use Rattle.daemon_core.proofs.test_chains.serve_bytes.Goals as goal
 
 pub returns : goal.returns

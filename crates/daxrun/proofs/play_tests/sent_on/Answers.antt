@@ -1,5 +1,5 @@
 use Rattle.std.proofs.Common.{◌≡◌, ◌∙◌, ap, refl, [], ◌∷◌}
-use Rattle.daemon_core.specs.State.{new_state}
+use Rattle.fuse_device.specs.State.{new_state}
 use Rattle.daxrun.proofs.Playing.{servable-new, small-new}
 use Rattle.daxrun.proofs.play_tests.sent_on.Goals as goal
 

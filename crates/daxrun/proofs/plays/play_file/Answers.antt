@@ -7,7 +7,7 @@ use Rattle.daxrun.specs.declared.transcripts.GuestPart.{GuestPart}
 use Rattle.daxrun.specs.declared.transcripts.Transcript.{Transcript}
 use Rattle.daxrun.specs.Play.{entry_line, entries_of, guests_of, transcript_for}
 use Rattle.daxrun.specs.TranscriptReading.{IsPrintable, IsPrintableGuest}
-use Rattle.daemon_core.specs.State.{new_state}
+use Rattle.fuse_device.specs.State.{new_state}
 use Rattle.daxrun.proofs.Playing.{bytes_now-new, servable-new, small-new}
 use Rattle.daxrun.proofs.Printable.{transcript_printable}
 use Rattle.daxrun.proofs.plays.play_file.Goals as goal

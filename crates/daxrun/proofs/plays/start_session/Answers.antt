@@ -1,8 +1,8 @@
 use Rattle.std.proofs.Common.{◌≡◌, ◌∙◌, ◌≤◌, ap, sym, subst, Some, true}
 use Rattle.plain_file.specs.File.{max_file}
 use Rattle.plain_file.specs.Board.{BoardView, size_of, file_at}
-use Rattle.daemon_core.specs.State.{State, World, begun, looked_up, named}
-use Rattle.daemon_core.specs.Checks.{may_open}
+use Rattle.fuse_device.specs.State.{State, World, begun, looked_up, named}
+use Rattle.fuse_device.specs.Checks.{may_open}
 use Rattle.daxrun.proofs.Playing.{named-first, found-first}
 use Rattle.daxrun.proofs.plays.start_session.Goals as goal
 

@@ -1,4 +1,4 @@
-use Rattle.daemon_core.proofs.Servable.{servable_serves}
+use Rattle.fuse_device.proofs.Servable.{servable_serves}
 use Rattle.daxrun.proofs.Asking.{begins, done, done_or_memory, live_again}
 use Rattle.daxrun.proofs.requests.begin.Goals as goal
 

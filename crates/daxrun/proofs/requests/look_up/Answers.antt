@@ -1,8 +1,8 @@
 use Rattle.std.proofs.Common.{◌∙◌, ap, ◌+◌}
 use Rattle.fuse_wire.specs.declared.attributes.EntryOut.{EntryOut}
-use Rattle.daemon_core.proofs.Servable.{servable_serves}
+use Rattle.fuse_device.proofs.Servable.{servable_serves}
 use Rattle.daxrun.proofs.Asking.{finds, done, done_or_memory, entry_is, live_again, same_place}
-use Rattle.daemon_core.specs.State.{looked_up}
+use Rattle.fuse_device.specs.State.{looked_up}
 use Rattle.daxrun.proofs.requests.look_up.Goals as goal
 
 pub lookup-requires : goal.lookup-requires

@@ -1,8 +1,8 @@
 use Rattle.std.proofs.Common.{ap, sym, subst}
-use Rattle.daemon_core.specs.State.{State, World, with_open}
-use Rattle.daemon_core.specs.OpenFiles.{HasOpenFile}
-use Rattle.daemon_core.proofs.OpenHandles.{opened_is_open}
-use Rattle.daemon_core.proofs.Servable.{servable_serves}
+use Rattle.fuse_device.specs.State.{State, World, with_open}
+use Rattle.fuse_device.specs.OpenFiles.{HasOpenFile}
+use Rattle.fuse_device.proofs.OpenHandles.{opened_is_open}
+use Rattle.fuse_device.proofs.Servable.{servable_serves}
 use Rattle.daxrun.proofs.Asking.{opens, done, done_or_memory, live_again, opened_is}
 use Rattle.daxrun.proofs.requests.open_file.Goals as goal
 

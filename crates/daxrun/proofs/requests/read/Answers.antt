@@ -1,7 +1,7 @@
 use Rattle.std.proofs.Common.{ap}
 use Rattle.plain_file.specs.declared.operations.Answer.TheVariants as answers
 use Rattle.plain_file.specs.File.{answer}
-use Rattle.daemon_core.proofs.Servable.{servable_serves}
+use Rattle.fuse_device.proofs.Servable.{servable_serves}
 use Rattle.daxrun.proofs.Asking.{reads, bytes_are, done, done_or_memory, live_again}
 use Rattle.daxrun.proofs.requests.read.Goals as goal
 

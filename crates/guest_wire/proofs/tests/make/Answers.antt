@@ -1,5 +1,5 @@
 use Rattle.std.proofs.Common.{refl}
-use Rattle.daemon_core.proofs.Servable.{servable_serves}
+use Rattle.fuse_device.proofs.Servable.{servable_serves}
 use Rattle.guest_wire.proofs.Serving.{IsServable-answer}
 use Rattle.guest_wire.proofs.tests.make.Goals as goal
 

@@ -1,4 +1,4 @@
-use Rattle.daemon_core.specs.Promises.{IsServable, world}
+use Rattle.fuse_device.specs.Promises.{IsServable, world}
 use Rattle.guest_wire.proofs.tests.session.Given as goal
 
 abbrev pub invariant-loop-call : goal.invariant-loop-call

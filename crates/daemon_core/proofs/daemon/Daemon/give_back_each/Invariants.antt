@@ -1,5 +1,5 @@
 use Rattle.std.proofs.Common.{◌≡◌, length}
-use Rattle.daemon_core.specs.Requests.{all_forgotten}
+use Rattle.fuse_device.specs.Requests.{all_forgotten}
 use Rattle.daemon_core.proofs.daemon.Daemon.give_back_each.Given as goal
 
 abbrev pub invariant-loop-one : goal.invariant-loop-one

@@ -1,5 +1,5 @@
 use Rattle.std.proofs.Common.{◌≡◌, ◌∙◌, sym, subst, ℕ, List}
-use Rattle.daemon_core.specs.Promises.{CanStep}
+use Rattle.fuse_device.specs.Promises.{CanStep}
 use Rattle.dax_host.proofs.queue.Queue.carry.Goals as goal
 
 pub serve_chain-requires-clause-boards : goal.serve_chain-requires-clause-boards

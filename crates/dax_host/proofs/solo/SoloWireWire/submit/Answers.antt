@@ -1,5 +1,5 @@
 use Rattle.std.proofs.Common.{refl}
-use Rattle.daemon_core.specs.Promises.{world}
+use Rattle.fuse_device.specs.Promises.{world}
 use Rattle.dax_host.proofs.Carrying.{KeepsBoards-step, KeepsBoards-step_or_not}
 use Rattle.dax_host.proofs.solo.SoloWireWire.submit.Goals as goal
 

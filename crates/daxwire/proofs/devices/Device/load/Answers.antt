@@ -1,4 +1,4 @@
-use Rattle.daemon_core.specs.Promises.{world}
+use Rattle.fuse_device.specs.Promises.{world}
 use Rattle.daxwire.proofs.Serving.{names_of_board}
 use Rattle.daxwire.proofs.devices.Device.load.Goals as goal
 

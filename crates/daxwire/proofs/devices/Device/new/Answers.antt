@@ -1,5 +1,5 @@
 use Rattle.std.proofs.Common.{rules}
-use Rattle.daemon_core.proofs.Servable.{none_distinct}
+use Rattle.fuse_device.proofs.Servable.{none_distinct}
 use Rattle.daxwire.proofs.Serving.{serving_new}
 use Rattle.daxwire.proofs.devices.Device.new.Goals as goal
 

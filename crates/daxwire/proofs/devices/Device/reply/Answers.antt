@@ -1,8 +1,8 @@
 use Rattle.std.proofs.Common.{ap, arith, length, List, ℕ, subst, sym}
-use Rattle.daemon_core.specs.Promises.{world}
-use Rattle.daemon_core.proofs.Servable.{servable_steps}
+use Rattle.fuse_device.specs.Promises.{world}
+use Rattle.fuse_device.proofs.Servable.{servable_steps}
 use Rattle.daxwire.specs.RingText.{IsAnswer}
-use Rattle.daemon_core.proofs.Answering.{device_step_fits}
+use Rattle.fuse_device.proofs.Answering.{device_step_fits}
 use Rattle.daxwire.proofs.DeviceAnswers.{answer_has_line}
 use Rattle.daxwire.proofs.Serving.{serving_after_chain}
 use Rattle.daxwire.proofs.devices.Device.reply.Goals as goal

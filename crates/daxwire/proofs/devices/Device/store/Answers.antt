@@ -1,4 +1,4 @@
-use Rattle.daemon_core.specs.Promises.{world}
+use Rattle.fuse_device.specs.Promises.{world}
 use Rattle.daxwire.proofs.Serving.{names_of_board, serving_after_store}
 use Rattle.daxwire.proofs.devices.Device.store.Goals as goal
 

@@ -1,7 +1,7 @@
 use Rattle.std.proofs.Common.{◌≡◌, ◌∙◌, ap, subst}
 use Rattle.fuse_codec.specs.Grammar.{clean_message, Spells}
 use Rattle.fuse_codec.specs.declared.messages.Message.{Message}
-use Rattle.daemon_core.specs.Steps.{wanted_room}
+use Rattle.fuse_device.specs.Steps.{wanted_room}
 use Rattle.guest_wire.specs.Wires.{Sent, boards, sending, world_at, IsStep}
 use Rattle.guest_wire.specs.Requests.{message, sent}
 use Rattle.guest_wire.specs.Answers.{JudgesOrNot, Receives, heard}

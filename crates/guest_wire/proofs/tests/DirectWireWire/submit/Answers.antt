@@ -1,5 +1,5 @@
 use Rattle.std.proofs.Common.{refl}
-use Rattle.daemon_core.specs.Promises.{world}
+use Rattle.fuse_device.specs.Promises.{world}
 use Rattle.guest_wire.proofs.Serving.{KeepsBoards-serve_chain}
 use Rattle.guest_wire.proofs.tests.DirectWireWire.submit.Goals as goal
 

@@ -5,7 +5,7 @@ use Rattle.fuse_codec.specs.declared.replies.Reply.{Reply}
 use Rattle.fuse_wire.specs.declared.errno.Errno.{Errno}
 use Rattle.fuse_wire.specs.declared.errno.Errno.TheVariants.{ENOENT, EBADF, ENOTDIR, EISDIR, EMFILE}
 use Rattle.plain_file.specs.File.{max_file}
-use Rattle.daemon_core.specs.State.{State, World, is_made, made_at, is_open, is_dir}
+use Rattle.fuse_device.specs.State.{State, World, is_made, made_at, is_open, is_dir}
 
 -- a reply or an error, and the device with its boards afterwards
 abbrev pub Outcome : Type 0

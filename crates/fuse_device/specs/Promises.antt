@@ -10,11 +10,11 @@ use Rattle.page_map.specs.Board.{MapView, mapped_at, may_clear}
 use Rattle.page_map.specs.declared.pages.Page.{Page}
 use Rattle.plain_file.specs.Board.{BoardView, IsReady}
 use Rattle.plain_file.specs.declared.refusals.Memory.{Memory}
-use Rattle.daemon_core.specs.declared.refusals.Refused.{Refused}
-use Rattle.daemon_core.specs.declared.refusals.Refused.TheVariants as refusals
-use Rattle.daemon_core.specs.State.{State, World}
-use Rattle.daemon_core.specs.Checks.{Outcome}
-use Rattle.daemon_core.specs.Steps.{Step}
+use Rattle.fuse_device.specs.declared.refusals.Refused.{Refused}
+use Rattle.fuse_device.specs.declared.refusals.Refused.TheVariants as refusals
+use Rattle.fuse_device.specs.State.{State, World}
+use Rattle.fuse_device.specs.Checks.{Outcome}
+use Rattle.fuse_device.specs.Steps.{Step}
 
 -- a device with boards
 abbrev pub world : State → BoardView → MapView → World

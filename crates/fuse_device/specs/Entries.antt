@@ -12,8 +12,8 @@ use Rattle.fuse_wire.specs.declared.inits.InitIn.{InitIn}
 use Rattle.fuse_wire.specs.declared.inits.InitOut.{InitOut}
 use Rattle.fuse_wire.specs.declared.opens.OpenOut.{OpenOut}
 use Rattle.plain_file.specs.Board.{BoardView, file_at, size_of}
-use Rattle.daemon_core.specs.declared.tables.MadeFile.{MadeFile}
-use Rattle.daemon_core.specs.State.{State, made_at}
+use Rattle.fuse_device.specs.declared.tables.MadeFile.{MadeFile}
+use Rattle.fuse_device.specs.State.{State, made_at}
 
 -- ---- the session
 

@@ -16,9 +16,9 @@ use Rattle.fuse_wire.specs.Records.{in_header_at}
 use Rattle.fuse_wire.specs.declared.errno.Errno.{Errno}
 use Rattle.fuse_wire.specs.declared.errno.Errno.TheVariants.{EIO, EINVAL, ENOSYS}
 use Rattle.fuse_wire.specs.declared.records.InHeader.{InHeader}
-use Rattle.daemon_core.specs.State.{World}
-use Rattle.daemon_core.specs.Checks.{Outcome, refuse}
-use Rattle.daemon_core.specs.Requests.{served, is_init}
+use Rattle.fuse_device.specs.State.{World}
+use Rattle.fuse_device.specs.Checks.{Outcome, refuse}
+use Rattle.fuse_device.specs.Requests.{served, is_init}
 
 -- the device afterwards, and what goes into the writable part
 abbrev pub Step : Type 0

@@ -10,9 +10,9 @@ use Rattle.fuse_codec.specs.declared.replies.Reply.{Reply}
 use Rattle.fuse_codec.proofs.CleanReplies.{clean_is_spelled}
 use Rattle.fuse_codec.proofs.CleanReading.{header_fits}
 use Rattle.fuse_codec.proofs.ReplyLaws.{reply_again}
-use Rattle.daemon_core.specs.State.{World}
-use Rattle.daemon_core.specs.Requests.{is_forget}
-use Rattle.daemon_core.specs.OpenFiles.{Succeeds}
+use Rattle.fuse_device.specs.State.{World}
+use Rattle.fuse_device.specs.Requests.{is_forget}
+use Rattle.fuse_device.specs.OpenFiles.{Succeeds}
 
 -- the form of the replies to a request
 pub form_again : (q : Request) → is_forget q ≡ false → answered (reply_form (kind_of q)) ≡ Some (reply_form (kind_of q))

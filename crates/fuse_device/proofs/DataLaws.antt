@@ -32,14 +32,14 @@ use Rattle.plain_file.specs.Board.{BoardView, may_apply}
 use Rattle.plain_file.specs.declared.operations.Answer.{Answer}
 use Rattle.plain_file.specs.declared.refusals.Memory.{Memory}
 use Rattle.plain_file.specs.declared.operations.Op.{Op}
-use Rattle.daemon_core.specs.State.{State, World, is_made}
-use Rattle.daemon_core.specs.Checks.{Outcome, is_known, refuse}
-use Rattle.daemon_core.specs.Requests.{done, applies, attr_of, resizes, getattr, setattr, sync, read, write, setup, remove, answered, is_init, is_forget, served}
-use Rattle.daemon_core.specs.Steps.{Step, is_forget_number, header_at, judged_message, judged, replied, forgot, device_step}
-use Rattle.daemon_core.specs.Promises.{CanServe, IsServable, NamesFiles, world}
-use Rattle.daemon_core.specs.DataSteps.{is_data, is_on_file, is_file_body, is_body_on_file, file_of, named_in, file_in, named_file, CanServeData, CanStepData, data_judged_message, data_judged, data_step}
-use Rattle.daemon_core.proofs.Servable.{Serves, refuse_keeps, judged_keeps, step_keeps, not_false}
-use Rattle.daemon_core.proofs.Mapped.{AreNamed, Names, refuse_names, judged_names, step_names}
+use Rattle.fuse_device.specs.State.{State, World, is_made}
+use Rattle.fuse_device.specs.Checks.{Outcome, is_known, refuse}
+use Rattle.fuse_device.specs.Requests.{done, applies, attr_of, resizes, getattr, setattr, sync, read, write, setup, remove, answered, is_init, is_forget, served}
+use Rattle.fuse_device.specs.Steps.{Step, is_forget_number, header_at, judged_message, judged, replied, forgot, device_step}
+use Rattle.fuse_device.specs.Promises.{CanServe, IsServable, NamesFiles, world}
+use Rattle.fuse_device.specs.DataSteps.{is_data, is_on_file, is_file_body, is_body_on_file, file_of, named_in, file_in, named_file, CanServeData, CanStepData, data_judged_message, data_judged, data_step}
+use Rattle.fuse_device.proofs.Servable.{Serves, refuse_keeps, judged_keeps, step_keeps, not_false}
+use Rattle.fuse_device.proofs.Mapped.{AreNamed, Names, refuse_names, judged_names, step_names}
 
 -- ---- the file that a chain names
 

@@ -16,7 +16,7 @@ pub enum Refused {
 }
 
 impl From<Errno> for Refused {
-    ghost use Rattle.daemon_core.specs.declared.refusals.Refused.TheVariants as refusals;
+    ghost use Rattle.fuse_device.specs.declared.refusals.Refused.TheVariants as refusals;
 
     ghost from_gives = { λ e r. r ≡ refusals.Errno e };
 
@@ -26,7 +26,7 @@ impl From<Errno> for Refused {
 }
 
 impl From<Memory> for Refused {
-    ghost use Rattle.daemon_core.specs.declared.refusals.Refused.TheVariants as refusals;
+    ghost use Rattle.fuse_device.specs.declared.refusals.Refused.TheVariants as refusals;
 
     ghost from_gives = { λ _ r. r ≡ refusals.Memory };
 

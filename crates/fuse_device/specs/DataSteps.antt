@@ -14,10 +14,10 @@ use Rattle.fuse_wire.specs.declared.records.InHeader.{InHeader}
 use Rattle.fuse_wire.specs.declared.errno.Errno.TheVariants.{ENOSYS}
 use Rattle.page_map.specs.Board.{MapView}
 use Rattle.plain_file.specs.Board.{BoardView, IsReady}
-use Rattle.daemon_core.specs.State.{State, World}
-use Rattle.daemon_core.specs.Checks.{Outcome, is_known, refuse}
-use Rattle.daemon_core.specs.Requests.{answered}
-use Rattle.daemon_core.specs.Steps.{Step, errno_of, replied, judged_message, is_forget_number, header_at}
+use Rattle.fuse_device.specs.State.{State, World}
+use Rattle.fuse_device.specs.Checks.{Outcome, is_known, refuse}
+use Rattle.fuse_device.specs.Requests.{answered}
+use Rattle.fuse_device.specs.Steps.{Step, errno_of, replied, judged_message, is_forget_number, header_at}
 
 -- the requests that are carried out
 unfoldable pub is_data : Request → Bool

@@ -25,11 +25,11 @@ use Rattle.fuse_codec.specs.declared.messages.Message.{Message}
 use Rattle.fuse_codec.specs.declared.messages.Request.{Request}
 use Rattle.fuse_codec.specs.declared.messages.Request.TheVariants as asks
 use Rattle.fuse_codec.specs.declared.replies.Reply.TheVariants as gives
-use Rattle.daemon_core.specs.State.{World, new_state, begun, is_made, named}
-use Rattle.daemon_core.specs.Checks.{Outcome, is_known, is_handle, may_open}
-use Rattle.daemon_core.specs.Entries.{dir_attr, file_attr, attr_with, attr_out_of, entries}
-use Rattle.daemon_core.specs.Requests.{bytes_reply, size_in, init, destroy, getattr, setattr, open_file, open_dir, release, release_dir, sync, fallocate, read, write, lookup, unlink, create, forget, batch_forget, read_dir, setup, remove, answered, is_init, is_forget, served}
-use Rattle.daemon_core.specs.Steps.{Step, device_step, errno_of, reply_to, judged_message}
+use Rattle.fuse_device.specs.State.{World, new_state, begun, is_made, named}
+use Rattle.fuse_device.specs.Checks.{Outcome, is_known, is_handle, may_open}
+use Rattle.fuse_device.specs.Entries.{dir_attr, file_attr, attr_with, attr_out_of, entries}
+use Rattle.fuse_device.specs.Requests.{bytes_reply, size_in, init, destroy, getattr, setattr, open_file, open_dir, release, release_dir, sync, fallocate, read, write, lookup, unlink, create, forget, batch_forget, read_dir, setup, remove, answered, is_init, is_forget, served}
+use Rattle.fuse_device.specs.Steps.{Step, device_step, errno_of, reply_to, judged_message}
 
 -- ---- devices to begin with
 

@@ -9,10 +9,10 @@ use Rattle.page_map.specs.declared.pages.Span.{Span}
 use Rattle.plain_file.specs.Board.{BoardView}
 use Rattle.plain_file.specs.Board as board
 use Rattle.plain_file.specs.declared.operations.Op.{Op}
-use Rattle.daemon_core.specs.declared.tables.Kind.{Kind}
-use Rattle.daemon_core.specs.declared.tables.Kind.TheVariants as kinds
-use Rattle.daemon_core.specs.declared.tables.MadeFile.{MadeFile}
-use Rattle.daemon_core.specs.declared.tables.Opened.{Opened}
+use Rattle.fuse_device.specs.declared.tables.Kind.{Kind}
+use Rattle.fuse_device.specs.declared.tables.Kind.TheVariants as kinds
+use Rattle.fuse_device.specs.declared.tables.MadeFile.{MadeFile}
+use Rattle.fuse_device.specs.declared.tables.Opened.{Opened}
 
 -- what the device holds
 pub record State : Type 0 where

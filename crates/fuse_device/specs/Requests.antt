@@ -27,9 +27,9 @@ use Rattle.plain_file.specs.declared.operations.Answer.{Answer}
 use Rattle.plain_file.specs.declared.operations.Answer.TheVariants as answers
 use Rattle.plain_file.specs.declared.operations.Op.{Op}
 use Rattle.plain_file.specs.declared.operations.Op.TheVariants as ops
-use Rattle.daemon_core.specs.State.{State, World, grants, made_at, named, with_made, looked_up, unnamed, with_new_file, less_looked_up, with_open, without_open, begun, ended, cleared_window, all_cleared}
-use Rattle.daemon_core.specs.Checks.{Outcome, is_known, is_past, has_flag, refuse, on_known, on_dir, on_file, on_handle, on_handle_if, if_may_open}
-use Rattle.daemon_core.specs.Entries.{session_flags, init_out_with, dir_attr, file_attr, attr_out_of, entry_of, open_out_of, listed}
+use Rattle.fuse_device.specs.State.{State, World, grants, made_at, named, with_made, looked_up, unnamed, with_new_file, less_looked_up, with_open, without_open, begun, ended, cleared_window, all_cleared}
+use Rattle.fuse_device.specs.Checks.{Outcome, is_known, is_past, has_flag, refuse, on_known, on_dir, on_file, on_handle, on_handle_if, if_may_open}
+use Rattle.fuse_device.specs.Entries.{session_flags, init_out_with, dir_attr, file_attr, attr_out_of, entry_of, open_out_of, listed}
 
 -- ---- what is done and answered
 

@@ -33,14 +33,14 @@ use Rattle.fuse_codec.proofs.RequestLaws.{message_again}
 use Rattle.plain_file.specs.declared.operations.Op.TheVariants as ops
 use Rattle.plain_file.specs.Board.{file_at, file_answer, bytes_now, size_of, applied}
 use Rattle.plain_file.specs.File.{answer, max_file}
-use Rattle.daemon_core.specs.State.{State, World, no_made, is_made, made_at, has_name, named, is_dir, begun, looked_up, with_open, next_opened}
-use Rattle.daemon_core.specs.declared.tables.Opened.{Opened}
-use Rattle.daemon_core.specs.Checks.{Outcome, is_known, is_handle, may_open}
-use Rattle.daemon_core.specs.Entries.{session_flags, init_out_with, file_attr, entry_of, open_out_of}
-use Rattle.daemon_core.specs.Requests.{bytes_reply, init, lookup, open_file, read, write, answered, is_init, is_forget, served}
-use Rattle.daemon_core.specs.Steps.{header_at, is_forget_number, wanted_room, reply_to, judged_message, replied, device_step}
-use Rattle.daemon_core.specs.OpenFiles.{HasOpenFile, Succeeds}
-use Rattle.daemon_core.proofs.Allowed.{may_apply-read, may_apply-write}
+use Rattle.fuse_device.specs.State.{State, World, no_made, is_made, made_at, has_name, named, is_dir, begun, looked_up, with_open, next_opened}
+use Rattle.fuse_device.specs.declared.tables.Opened.{Opened}
+use Rattle.fuse_device.specs.Checks.{Outcome, is_known, is_handle, may_open}
+use Rattle.fuse_device.specs.Entries.{session_flags, init_out_with, file_attr, entry_of, open_out_of}
+use Rattle.fuse_device.specs.Requests.{bytes_reply, init, lookup, open_file, read, write, answered, is_init, is_forget, served}
+use Rattle.fuse_device.specs.Steps.{header_at, is_forget_number, wanted_room, reply_to, judged_message, replied, device_step}
+use Rattle.fuse_device.specs.OpenFiles.{HasOpenFile, Succeeds}
+use Rattle.fuse_device.proofs.Allowed.{may_apply-read, may_apply-write}
 
 -- ---- any request that has a reply
 

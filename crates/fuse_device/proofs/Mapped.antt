@@ -25,14 +25,14 @@ use Rattle.page_map.specs.Plain.{new_map}
 use Rattle.page_map.specs.declared.pages.Page.{Page}
 use Rattle.page_map.specs.declared.pages.Span.{Span}
 use Rattle.page_map.proofs.Showing.{held_at-painted, held_at-painted_other, held_at-wiped, held_at-wiped_other, mapped_at-plain}
-use Rattle.daemon_core.specs.State.{State, World, is_made, grants, made_at, counted_up, without_name, unlooked, begun, with_new_file, new_file, cleared_window, all_cleared}
-use Rattle.daemon_core.specs.Entries.{session_flags, init_out_with}
-use Rattle.daemon_core.specs.Checks.{Outcome, is_known, is_handle, is_past, refuse}
-use Rattle.daemon_core.specs.Requests.{done, applies, attr_of, opens, closes, found, unlinked, opens_entry, makes_entry, created, resizes, span_of, is_bad_setup, init, destroy, getattr, setattr, open_file, open_dir, release, release_dir, sync, fallocate, read, write, lookup, unlink, create, forget, batch_forget, read_dir, setup, remove, answered, served}
-use Rattle.daemon_core.specs.Steps.{Step, judged_message, judged, forgot, replied, header_at, is_forget_number, device_step}
-use Rattle.daemon_core.specs.Promises.{IsServable, NamesFiles}
-use Rattle.daemon_core.proofs.Clears.{first_of_both, rest_of_both, wiped_len, whole_window}
-use Rattle.daemon_core.proofs.Servable.{not_false, is_some, is_whole_setup, forgotten_same, all_forgotten_same}
+use Rattle.fuse_device.specs.State.{State, World, is_made, grants, made_at, counted_up, without_name, unlooked, begun, with_new_file, new_file, cleared_window, all_cleared}
+use Rattle.fuse_device.specs.Entries.{session_flags, init_out_with}
+use Rattle.fuse_device.specs.Checks.{Outcome, is_known, is_handle, is_past, refuse}
+use Rattle.fuse_device.specs.Requests.{done, applies, attr_of, opens, closes, found, unlinked, opens_entry, makes_entry, created, resizes, span_of, is_bad_setup, init, destroy, getattr, setattr, open_file, open_dir, release, release_dir, sync, fallocate, read, write, lookup, unlink, create, forget, batch_forget, read_dir, setup, remove, answered, served}
+use Rattle.fuse_device.specs.Steps.{Step, judged_message, judged, forgot, replied, header_at, is_forget_number, device_step}
+use Rattle.fuse_device.specs.Promises.{IsServable, NamesFiles}
+use Rattle.fuse_device.proofs.Clears.{first_of_both, rest_of_both, wiped_len, whole_window}
+use Rattle.fuse_device.proofs.Servable.{not_false, is_some, is_whole_setup, forgotten_same, all_forgotten_same}
 
 -- the window after an outcome maps files that are made then
 pub record Names (o : Outcome) : Type 0 where

@@ -6,9 +6,9 @@ use Rattle.fuse_codec.specs.Opcodes.{reply_form}
 use Rattle.fuse_codec.specs.Replies.{reply_parts, is_reply, HasForm}
 use Rattle.fuse_codec.specs.declared.messages.Request.{Request}
 use Rattle.fuse_codec.specs.declared.replies.Reply.{Reply}
-use Rattle.daemon_core.specs.State.{State, World, is_made}
-use Rattle.daemon_core.specs.Checks.{is_handle}
-use Rattle.daemon_core.specs.Requests.{answered, is_init, is_forget}
+use Rattle.fuse_device.specs.State.{State, World, is_made}
+use Rattle.fuse_device.specs.Checks.{is_handle}
+use Rattle.fuse_device.specs.Requests.{answered, is_init, is_forget}
 
 -- in a started session, an open handle of a file that was made
 pub record HasOpenFile (s : State) (node fh : ℕ) : Type 0 where

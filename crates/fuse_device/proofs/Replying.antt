@@ -30,14 +30,14 @@ use Rattle.plain_file.specs.File.{answer}
 use Rattle.plain_file.specs.declared.operations.Answer.{Answer}
 use Rattle.plain_file.specs.declared.operations.Op.{Op}
 use Rattle.plain_file.specs.declared.operations.Op.TheVariants as ops
-use Rattle.daemon_core.specs.State.{World, State, grants}
-use Rattle.daemon_core.specs.Entries.{entries, listed}
+use Rattle.fuse_device.specs.State.{World, State, grants}
+use Rattle.fuse_device.specs.Entries.{entries, listed}
 use Rattle.fuse_codec.specs.Dirents.{fitting}
 use Rattle.page_map.specs.Board.{painted}
-use Rattle.daemon_core.specs.Checks.{Outcome, refuse, is_known, is_handle, is_past, on_file, on_dir, on_handle, on_handle_if}
-use Rattle.daemon_core.specs.Requests.{span_of, is_bad_setup, done, applies, bytes_reply, attr_of, opens, closes, found, unlinked, opens_entry, makes_entry, created, resizes, init, destroy, getattr, setattr, open_file, open_dir, release, release_dir, sync, fallocate, read, write, lookup, unlink, create, forget, batch_forget, read_dir, setup, remove, is_forget, is_init, served}
-use Rattle.daemon_core.specs.Requests as requests
-use Rattle.daemon_core.specs.Steps.{wanted_room}
+use Rattle.fuse_device.specs.Checks.{Outcome, refuse, is_known, is_handle, is_past, on_file, on_dir, on_handle, on_handle_if}
+use Rattle.fuse_device.specs.Requests.{span_of, is_bad_setup, done, applies, bytes_reply, attr_of, opens, closes, found, unlinked, opens_entry, makes_entry, created, resizes, init, destroy, getattr, setattr, open_file, open_dir, release, release_dir, sync, fallocate, read, write, lookup, unlink, create, forget, batch_forget, read_dir, setup, remove, is_forget, is_init, served}
+use Rattle.fuse_device.specs.Requests as requests
+use Rattle.fuse_device.specs.Steps.{wanted_room}
 
 -- ---- a request's reply
 

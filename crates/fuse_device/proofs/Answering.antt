@@ -24,13 +24,13 @@ use Rattle.fuse_codec.specs.declared.replies.Reply.{Reply}
 use Rattle.fuse_codec.specs.declared.replies.Reply.TheVariants as gives
 use Rattle.fuse_codec.proofs.CleanReading.{ReadsTo, length-clean_reply, clean_reply_read}
 use Rattle.fuse_codec.proofs.RequestLaws.{message_found, message_again, opcode_again}
-use Rattle.daemon_core.specs.State.{World}
-use Rattle.daemon_core.specs.Checks.{Outcome, refuse}
-use Rattle.daemon_core.specs.Requests.{is_init, is_forget, served}
-use Rattle.daemon_core.specs.Steps.{Step, wanted_room, reply_to, errno_of, judged_message, judged, replied, header_at, is_forget_number, forgot, device_step}
-use Rattle.daemon_core.proofs.OpenHandles.{header_at-spelled, length-spelled, forget_number, least_room}
-use Rattle.daemon_core.proofs.Receiving.{form_again}
-use Rattle.daemon_core.proofs.Replying.{request_form, Replies, served_ok}
+use Rattle.fuse_device.specs.State.{World}
+use Rattle.fuse_device.specs.Checks.{Outcome, refuse}
+use Rattle.fuse_device.specs.Requests.{is_init, is_forget, served}
+use Rattle.fuse_device.specs.Steps.{Step, wanted_room, reply_to, errno_of, judged_message, judged, replied, header_at, is_forget_number, forgot, device_step}
+use Rattle.fuse_device.proofs.OpenHandles.{header_at-spelled, length-spelled, forget_number, least_room}
+use Rattle.fuse_device.proofs.Receiving.{form_again}
+use Rattle.fuse_device.proofs.Replying.{request_form, Replies, served_ok}
 
 -- ---- the request's form
 

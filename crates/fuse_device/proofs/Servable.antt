@@ -28,14 +28,14 @@ use Rattle.page_map.specs.Plain.{new_map}
 use Rattle.page_map.specs.declared.pages.Page.{Page}
 use Rattle.page_map.specs.declared.pages.Span.{Span}
 use Rattle.fuse_codec.specs.declared.replies.Reply.TheVariants as gives
-use Rattle.daemon_core.specs.State.{State, World, new_state, grants, made_at, counted_up, without_name, begun, with_made, with_new_file, new_file, with_open, without_open, looked_up, unlooked, cleared_window, all_cleared}
-use Rattle.daemon_core.specs.Entries.{session_flags, init_out_with}
-use Rattle.daemon_core.specs.declared.tables.MadeFile.{MadeFile}
-use Rattle.daemon_core.specs.Checks.{Outcome, may_open, refuse, if_may_open}
-use Rattle.daemon_core.specs.Requests.{done, applies, attr_of, opens, closes, found, unlinked, opens_entry, makes_entry, created, resizes, forgotten, all_forgotten, span_of, is_bad_setup, init, destroy, getattr, setattr, open_file, open_dir, release, release_dir, sync, fallocate, read, write, lookup, unlink, create, forget, batch_forget, read_dir, setup, remove, answered, served}
-use Rattle.daemon_core.specs.Steps.{Step, judged_message, judged, forgot, replied, header_at, is_forget_number, device_step}
-use Rattle.daemon_core.specs.Promises.{IsServable, CanServe, CanStep, Needs, world}
-use Rattle.daemon_core.proofs.Clears.{first_of_both, rest_of_both, wiped_len, painted_len, whole_window}
+use Rattle.fuse_device.specs.State.{State, World, new_state, grants, made_at, counted_up, without_name, begun, with_made, with_new_file, new_file, with_open, without_open, looked_up, unlooked, cleared_window, all_cleared}
+use Rattle.fuse_device.specs.Entries.{session_flags, init_out_with}
+use Rattle.fuse_device.specs.declared.tables.MadeFile.{MadeFile}
+use Rattle.fuse_device.specs.Checks.{Outcome, may_open, refuse, if_may_open}
+use Rattle.fuse_device.specs.Requests.{done, applies, attr_of, opens, closes, found, unlinked, opens_entry, makes_entry, created, resizes, forgotten, all_forgotten, span_of, is_bad_setup, init, destroy, getattr, setattr, open_file, open_dir, release, release_dir, sync, fallocate, read, write, lookup, unlink, create, forget, batch_forget, read_dir, setup, remove, answered, served}
+use Rattle.fuse_device.specs.Steps.{Step, judged_message, judged, forgot, replied, header_at, is_forget_number, device_step}
+use Rattle.fuse_device.specs.Promises.{IsServable, CanServe, CanStep, Needs, world}
+use Rattle.fuse_device.proofs.Clears.{first_of_both, rest_of_both, wiped_len, painted_len, whole_window}
 
 -- the device and its boards are servable after an outcome
 pub record Serves (o : Outcome) : Type 0 where

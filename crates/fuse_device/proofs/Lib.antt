@@ -1,0 +1,11 @@
+pub mod Allowed
+pub mod Examples
+pub mod OpenHandles
+pub mod Receiving
+pub mod Replying
+pub mod Answering
+pub mod Clears
+pub mod Decoded
+pub mod Servable
+pub mod Mapped
+pub mod DataLaws

@@ -1,0 +1,31 @@
+//! What the FUSE device of a directory of at most 16 files does: the definition of its step on a chain
+//! of a virtio-fs queue, and the laws about it. The daemon carries the step out; a client stands on the
+//! definition and needs nothing of the daemon.
+//!
+//! The records, opcodes and error numbers are those of Linux (uapi `fuse.h`, protocol 7.38). What a
+//! request means, the limits, and the order in which a request is refused are this project's own.
+//! Node 1 is the directory, and file i of the board has node i + 2.
+//!
+//! `specs/Steps.antt` states the step by its ordered refusals, `specs/Requests.antt` what each request
+//! means, with its checks in `specs/Checks.antt` and what is told of nodes in `specs/Entries.antt`, over
+//! the state of `specs/State.antt`. `specs/Promises.antt` has the forms of a daemon's contracts and what
+//! they ask of the boards. `specs/DataSteps.antt` states the step of a daemon that stays as it is, for
+//! the operations on bytes, sizes and mappings alone.
+//!
+//! `proofs/Examples.antt` has whole chains whose answers are known. `proofs/Answering.antt` says that an
+//! answer has room in its chain and is read as a reply to the request, `proofs/Servable.antt` that boards
+//! which one caller has for itself can be served chain after chain, `proofs/Mapped.antt` that the window
+//! maps made files and no others, and `proofs/DataLaws.antt` that what a daemon that stays carries out is
+//! what the whole device does, and that it stays as it is.
+//!
+//! A client stands on `proofs/OpenHandles.antt`: what an INIT, a LOOKUP, an OPEN, and the READs and
+//! WRITEs of an open file give, over any boards and in any spelling, and that no board refuses such a
+//! read or write (`proofs/Allowed.antt`). `proofs/Receiving.antt` says that the bytes answered are then
+//! read as that reply.
+#![tactic(auto)]
+
+mod refusals;
+mod tables;
+
+pub use refusals::Refused;
+pub use tables::{Kind, MadeFile, Opened};
