@@ -32,7 +32,7 @@ use Rattle.fuse_device.specs.Requests.{done, applies, attr_of, opens, closes, fo
 use Rattle.fuse_device.specs.Steps.{Step, judged_message, judged, forgot, replied, header_at, is_forget_number, device_step}
 use Rattle.fuse_device.specs.Promises.{IsServable, NamesFiles}
 use Rattle.fuse_device.proofs.Clears.{first_of_both, rest_of_both, wiped_len, whole_window}
-use Rattle.fuse_device.proofs.Servable.{not_false, is_some, is_whole_setup, forgotten_same, all_forgotten_same}
+use Rattle.fuse_device.proofs.Servable.{not_false, is_positive, is_whole_setup, forgotten_same, all_forgotten_same}
 
 -- the window after an outcome maps files that are made then
 pub record Names (o : Outcome) : Type 0 where
@@ -100,7 +100,7 @@ if_map true x y count h k = h
 if_map false x y count h k = k refl
 
 cleared_names : (v : MapView) (count pages : ℕ) → length v.table ≡ pages → NamesFiles count v → NamesFiles count (cleared_window pages v)
-cleared_names v count pages e h = if_map (pages == 0) v (wiped v 0 (4096 * pages)) count h (λ some. wiped_names count v 0 (4096 * pages) (rw e (whole_window pages (is_some pages some))) h)
+cleared_names v count pages e h = if_map (pages == 0) v (wiped v 0 (4096 * pages)) count h (λ some. wiped_names count v 0 (4096 * pages) (rw e (whole_window pages (is_positive pages some))) h)
 
 -- ---- outcomes
 

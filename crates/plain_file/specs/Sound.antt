@@ -1,5 +1,5 @@
 -- What holds of every board of files.
-use Rattle.std.specs.Prelude.{◌≡◌, ℕ, ◌<◌, ◌≤◌, Bool, true, false, List, length, slice_get, Some, IfSome, All}
+use Rattle.std.specs.Prelude.{◌≡◌, ℕ, ◌<◌, ◌≤◌, Bool, true, false, List, length, slice_get, Some, None, IfSome, All}
 use Rattle.plain_file.specs.declared.operations.Entry.{Entry}
 use Rattle.plain_file.specs.declared.operations.First.{First}
 use Rattle.plain_file.specs.File.{max_file}
@@ -27,7 +27,8 @@ pub record IsSoundFile (guest : ℕ) (plain : Bool) (f : FileView) : Type 0 wher
   pub floor : plain ≡ false → f.ready ≡ true → IfSome f.floor (λ z. z ≤ size_of f)
   pub small : size_of f ≤ max_file
 
--- what holds of a file of a board, whichever board it is
+-- What holds of a file of a board, whichever board it is. A plain board stands over no table.
 pub record IsSoundBoard (v : BoardView) (file : ℕ) : Type 0 where
+  pub alone : v.plain ≡ true → v.over ≡ None
   pub counted : length v.hands.leases ≡ length v.files
   pub sound : IsSoundFile v.guest v.plain (file_at v file)
