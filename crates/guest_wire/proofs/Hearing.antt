@@ -20,12 +20,16 @@ use Rattle.fuse_device.specs.State.{World}
 use Rattle.fuse_device.specs.OpenFiles.{Succeeds}
 use Rattle.fuse_device.specs.Requests.{is_forget}
 use Rattle.fuse_device.specs.Steps.{Step, wanted_room, device_step}
-use Rattle.fuse_device.proofs.Answering.{device_step_fits, device_step_answers}
+use Rattle.fuse_device.proofs.Answering.{device_step_fits, device_step_answers, data_step_fits, data_step_answers}
 use Rattle.fuse_device.proofs.OpenHandles.{device_step-succeeds}
 use Rattle.fuse_device.proofs.Receiving.{clean_reply_again}
-use Rattle.guest_wire.specs.Wires.{WireView, Boards, Sent, world_at, IsStep}
+use Rattle.guest_wire.specs.Wires.{WireView, Boards, Sent, world_at, turn_for, with_turn, step_of, IsCarried, IsStep}
 use Rattle.guest_wire.specs.Requests.{sent}
-use Rattle.guest_wire.specs.Answers.{Answers, JudgesOrNot, Receives, SaysItself, Succeeded, heard, numbered}
+use Rattle.guest_wire.specs.Answers.{Answers, JudgesOrNot, IsSent, SaysItself, Succeeded, heard, numbered}
+use Rattle.guest_wire.specs.declared.wires.WireError.{WireError}
+use Rattle.guest_wire.specs.declared.wires.WireError.TheVariants as errors
+use Rattle.guest_wire.proofs.Carrying.{carried_whole}
+use Rattle.plain_file.specs.Counts.{Rose}
 use Rattle.guest_wire.specs.declared.wires.WireRefusal.{WireRefusal}
 use Rattle.guest_wire.specs.declared.wires.WireRefusal.TheVariants as refusals
 
@@ -66,37 +70,53 @@ heard_by : (m : Message) (bytes : List ℕ) (reply : Reply) → length bytes ≤
 unfolding heard numbered
 heard_by m bytes reply within read = rw (le-ltb (wanted_room m.body) (length bytes) within, read, eq-eqb m.head.unique m.head.unique refl) refl
 
-step_bytes : (w new : World) (s : Sent) (bytes : List ℕ) → IsStep w s bytes new → (device_step w s.bytes s.room).1 ≡ bytes
-step_bytes w new s bytes e = ap (λ (t : Step). t.1) e
+-- an answer of either step is within the room
+step_fits : (stays : Bool) (w : World) (s : Sent) → length (step_of stays w s).1 ≤ s.room
+step_fits true w s = data_step_fits w s.bytes s.room
+step_fits false w s = device_step_fits w s.bytes s.room
+
+-- and is read as a reply
+step_answers : (stays : Bool) (w : World) (m : Message) → Spells m (clean_message m) → is_forget m.body ≡ false → ReadsTo (reply_form (kind_of m.body)) m.head.unique (step_of stays w (sent m)).1
+step_answers true w m s answers = data_step_answers w m (clean_message m) (wanted_room m.body) s answers (omega arith) (unique_fits m (clean_message m) s)
+step_answers false w m s answers = device_step_answers w m (clean_message m) (wanted_room m.body) s answers (omega arith) (unique_fits m (clean_message m) s)
+
+carried_fits : (w : WireView) (old new : World) (s : Sent) (bytes : List ℕ) → IsCarried w old s bytes new → length bytes ≤ s.room
+carried_fits w old new s bytes c = subst (λ (b : List ℕ). length b ≤ s.room) (ap (λ (t : Step). t.1) c.step) (step_fits w.stays (with_turn (turn_for w s.bytes) old c.more) s)
 
 -- what an honest wire brings back
-heard_honest : (w new : World) (m : Message) (bytes : List ℕ) → Spells m (clean_message m) → is_forget m.body ≡ false → IsStep w (sent m) bytes new → (reply : Reply) × (heard m bytes ≡ Some reply)
-heard_honest w new m bytes s answers step =
-    let e = step_bytes w new (sent m) bytes step in
-    let same : wanted_room m.body ≤ wanted_room m.body = omega arith in
-    let within : length bytes ≤ wanted_room m.body = subst (λ (b : List ℕ). length b ≤ wanted_room m.body) e (device_step_fits w (clean_message m) (wanted_room m.body)) in
-    let read : ReadsTo (reply_form (kind_of m.body)) m.head.unique bytes = subst (λ (b : List ℕ). ReadsTo (reply_form (kind_of m.body)) m.head.unique b) e (device_step_answers w m (clean_message m) (wanted_room m.body) s answers same (unique_fits m (clean_message m) s)) in
-    (read.0, heard_by m bytes read.0 within read.1)
+heard_honest : (w : WireView) (old new : World) (m : Message) (bytes : List ℕ) → Spells m (clean_message m) → is_forget m.body ≡ false → IsCarried w old (sent m) bytes new → (reply : Reply) × (heard m bytes ≡ Some reply)
+heard_honest w old new m bytes s answers c =
+    let read : ReadsTo (reply_form (kind_of m.body)) m.head.unique bytes = subst (λ (b : List ℕ). ReadsTo (reply_form (kind_of m.body)) m.head.unique b) (ap (λ (t : Step). t.1) c.step) (step_answers w.stays (with_turn (turn_for w (sent m).bytes) old c.more) m s answers) in
+    (read.0, heard_by m bytes read.0 (carried_fits w old new (sent m) bytes c) read.1)
 
 none_is_some : (reply : Reply) (o : Option Reply) → o ≡ None → o ≡ Some reply → ⊥
 none_is_some reply o e h = cc
 
 -- so it isn't honest where they are none
-not_honest : (honest : Bool) (w new : World) (m : Message) (bytes : List ℕ) → Spells m (clean_message m) → is_forget m.body ≡ false → heard m bytes ≡ None → (honest ≡ true → IsStep w (sent m) bytes new) → honest ≡ false
-not_honest false w new m bytes s answers none step = refl
-not_honest true w new m bytes s answers none step =
-    let h = heard_honest w new m bytes s answers (step refl) in
+not_honest : (w : WireView) (honest : Bool) (old new : World) (m : Message) (bytes : List ℕ) → Spells m (clean_message m) → is_forget m.body ≡ false → heard m bytes ≡ None → (honest ≡ true → IsCarried w old (sent m) bytes new) → honest ≡ false
+not_honest w false old new m bytes s answers none carried = refl
+not_honest w true old new m bytes s answers none carried =
+    let h = heard_honest w old new m bytes s answers (carried refl) in
     absurd (none_is_some h.0 (heard m bytes) none h.1)
 
 -- what was heard is what is answered
-pub answers_heard : {S : Type 0} (wire : S → WireView) (gives : S → Boards → Sent → List ℕ → S → Boards → Type 0) (before : S) (old : Boards) (m : Message) (bytes : List ℕ) (result : Result Reply WireRefusal) (after : S) (new : Boards)
-    → IsSome (answered (reply_form (kind_of m.body))) → Receives wire gives before old m bytes after new → JudgesOrNot (heard m bytes) bytes result → Answers wire gives SaysItself before old m result after new
-answers_heard wire gives before old m bytes (Ok reply) after new some received judged = (bytes, received, judged)
-answers_heard wire gives before old m bytes (Err (refusals.Errno number)) after new some received judged = (bytes, received, judged)
-answers_heard wire gives before old m bytes (Err (refusals.BadReply bad)) after new some received judged =
-    (not_honest (wire before).honest (world_at (wire before) old) (world_at (wire after) new) m bytes received.spelled (has_reply m.body some) judged.0 received.step, (bytes, received, judged))
-answers_heard wire gives before old m bytes (Err refusals.WireFault) after new some received judged = absurd judged
-answers_heard wire gives before old m bytes (Err refusals.Memory) after new some received judged = λ honest. inr (sym (ap (λ (t : Step). t.0) (received.step honest)))
+pub answers_heard : {S : Type 0} (wire : S → WireView) (gives : S → Boards → Sent → Result (List ℕ) WireError → S → Boards → Type 0) (before : S) (old : Boards) (m : Message) (bytes : List ℕ) (result : Result Reply WireRefusal) (after : S) (new : Boards)
+    → IsSome (answered (reply_form (kind_of m.body))) → IsSent wire gives before old m (Ok bytes) after new → JudgesOrNot (heard m bytes) bytes result → Answers wire gives SaysItself before old m result after new
+answers_heard wire gives before old m bytes (Ok reply) after new some came judged = (bytes, came, judged)
+answers_heard wire gives before old m bytes (Err (refusals.Errno number)) after new some came judged = (bytes, came, judged)
+answers_heard wire gives before old m bytes (Err (refusals.BadReply bad)) after new some came judged =
+    (not_honest (wire before) (wire before).honest (world_at (wire before) old) (world_at (wire after) new) m bytes came.spelled (has_reply m.body some) judged.0 came.honest, (bytes, came, judged))
+answers_heard wire gives before old m bytes (Err refusals.WireFault) after new some came judged = absurd judged
+answers_heard wire gives before old m bytes (Err refusals.Memory) after new some came judged = inr (inr (bytes, came))
+
+no_fault : (honest : Bool) → (honest ≡ true → ⊥) → honest ≡ false
+no_fault false h = refl
+no_fault true h = absurd (h refl)
+
+-- a fault of the wire is what is answered
+pub answers_fault : {S : Type 0} (wire : S → WireView) (gives : S → Boards → Sent → Result (List ℕ) WireError → S → Boards → Type 0) (before : S) (old : Boards) (m : Message) (after : S) (new : Boards)
+    → IsSent wire gives before old m (Err errors.Fault) after new → Rose (wire before).faults (wire after).faults → Answers wire gives SaysItself before old m (Err refusals.WireFault) after new
+answers_fault wire gives before old m after new came rose = (no_fault (wire before).honest came.honest, rose, came)
 
 -- ---- a request that succeeds
 
@@ -108,8 +128,9 @@ heard_success : (w new : World) (m : Message) (bytes : List ℕ) (reply : Reply)
 heard_success w new m bytes reply wanted s h step =
     let same : wanted_room m.body ≤ wanted_room m.body = omega arith in
     let does = device_step-succeeds w m reply wanted (clean_message m) (wanted_room m.body) s h same in
-    let e : bytes ≡ clean_reply m.head.unique reply = sym (step_bytes w new (sent m) bytes step) ∙ ap (λ (t : Step). t.1) does in
-    let within : length bytes ≤ wanted_room m.body = subst (λ (b : List ℕ). length b ≤ wanted_room m.body) (step_bytes w new (sent m) bytes step) (device_step_fits w (clean_message m) (wanted_room m.body)) in
+    let here : (device_step w (clean_message m) (wanted_room m.body)).1 ≡ bytes = ap (λ (t : Step). t.1) step in
+    let e : bytes ≡ clean_reply m.head.unique reply = sym here ∙ ap (λ (t : Step). t.1) does in
+    let within : length bytes ≤ wanted_room m.body = subst (λ (b : List ℕ). length b ≤ wanted_room m.body) here (device_step_fits w (clean_message m) (wanted_room m.body)) in
     let read : reply_of (reply_form (kind_of m.body)) bytes ≡ Ok (m.head.unique, reply) = ap (reply_of (reply_form (kind_of m.body))) e ∙ clean_reply_again m.body m.head.unique w m.head.nodeid reply wanted h (unique_fits m (clean_message m) s) in
     record { is = heard_by m bytes reply within read; left = sym (ap (λ (t : Step). t.0) step) ∙ ap (λ (t : Step). t.0) does }
 
@@ -124,16 +145,16 @@ no_error reply o r some none e h =
     let same : form_of reply ≡ None = ap form_of (some_is reply r o e h) ∙ none in
     nothing_is_some (form_of reply) same some
 
--- over an honest wire such a request is answered by its reply, and leaves what it is to leave
-pub succeeded : {S V : Type 0} (wire : S → WireView) (gives : S → Boards → Sent → List ℕ → S → Boards → Type 0) (says : V → Reply → Type 0) (before : S) (old : Boards) (m : Message) (reply : Reply) (wanted : World) (result : Result V WireRefusal) (after : S) (new : Boards)
-    → Answers wire gives says before old m result after new → (wire before).honest ≡ true → IsSome (form_of reply) → Succeeds (world_at (wire before) old) m.head.nodeid m.body reply wanted → Succeeded says reply wanted result (world_at (wire after) new)
+-- over an honest wire to the whole daemon such a request is answered by its reply, and leaves what it is to leave
+pub succeeded : {S V : Type 0} (wire : S → WireView) (gives : S → Boards → Sent → Result (List ℕ) WireError → S → Boards → Type 0) (says : V → Reply → Type 0) (before : S) (old : Boards) (m : Message) (reply : Reply) (wanted : World) (result : Result V WireRefusal) (after : S) (new : Boards)
+    → Answers wire gives says before old m result after new → (wire before).honest ≡ true → (wire before).stays ≡ false → IsSome (form_of reply) → Succeeds (world_at (wire before) old) m.head.nodeid m.body reply wanted → Succeeded says reply wanted result (world_at (wire after) new)
 unfolding form_of
-succeeded {V = V} wire gives says before old m reply wanted (Ok v) after new (bytes, received, (r, is, said)) honest success h =
-    let k = heard_success (world_at (wire before) old) (world_at (wire after) new) m bytes reply wanted received.spelled h (received.step honest) in
+succeeded {V = V} wire gives says before old m reply wanted (Ok v) after new (bytes, came, (r, is, said)) honest whole success h =
+    let k = heard_success (world_at (wire before) old) (world_at (wire after) new) m bytes reply wanted came.spelled h (carried_whole (wire before) (world_at (wire before) old) (sent m) bytes (world_at (wire after) new) whole (came.honest honest)) in
     (subst (says v) (some_is r reply (heard m bytes) is k.is) said, k.left)
-succeeded wire gives says before old m reply wanted (Err (refusals.Errno number)) after new (bytes, received, is) honest success h =
-    let k = heard_success (world_at (wire before) old) (world_at (wire after) new) m bytes reply wanted received.spelled h (received.step honest) in
+succeeded wire gives says before old m reply wanted (Err (refusals.Errno number)) after new (bytes, came, is) honest whole success h =
+    let k = heard_success (world_at (wire before) old) (world_at (wire after) new) m bytes reply wanted came.spelled h (carried_whole (wire before) (world_at (wire before) old) (sent m) bytes (world_at (wire after) new) whole (came.honest honest)) in
     absurd (no_error reply (heard m bytes) (replies.Error number) success refl k.is is)
-succeeded wire gives says before old m reply wanted (Err (refusals.BadReply bad)) after new (not_honest, received) honest success h = absurd (true≢false (sym honest ∙ not_honest))
-succeeded wire gives says before old m reply wanted (Err refusals.WireFault) after new (rose, not_honest) honest success h = absurd (true≢false (sym honest ∙ not_honest))
-succeeded wire gives says before old m reply wanted (Err refusals.Memory) after new step honest success h = tt
+succeeded wire gives says before old m reply wanted (Err (refusals.BadReply bad)) after new (not_honest, received) honest whole success h = absurd (true≢false (sym honest ∙ not_honest))
+succeeded wire gives says before old m reply wanted (Err refusals.WireFault) after new (not_honest, rose, came) honest whole success h = absurd (true≢false (sym honest ∙ not_honest))
+succeeded wire gives says before old m reply wanted (Err refusals.Memory) after new none honest whole success h = tt

@@ -1,4 +1,5 @@
 pub mod StepKeeps
+pub mod Carrying
 pub mod Judging
 pub mod Hearing
 pub mod Serving

@@ -1,5 +1,5 @@
 -- What bytes say to a request, and what a driver answers by them.
-use Rattle.std.specs.Prelude.{◌≡◌, ℕ, ◌==◌, true, false, nat_lt, List, length, Option, Some, None, Result, Ok, Err, if◌then◌else◌}
+use Rattle.std.specs.Prelude.{◌≡◌, ℕ, ◌==◌, true, false, nat_lt, List, length, Option, Some, None, Result, Ok, Err, ◌⊎◌, if◌then◌else◌}
 use Rattle.fuse_wire.specs.declared.opens.OpenOut.{OpenOut}
 use Rattle.fuse_codec.specs.Grammar.{kind_of, clean_message, Spells}
 use Rattle.fuse_codec.specs.Opcodes.{reply_form}
@@ -10,10 +10,12 @@ use Rattle.fuse_codec.specs.declared.replies.Reply.{Reply}
 use Rattle.fuse_codec.specs.declared.replies.Reply.TheVariants as replies
 use Rattle.fuse_device.specs.State.{World}
 use Rattle.fuse_device.specs.Steps.{wanted_room}
+use Rattle.guest_wire.specs.declared.wires.WireError.{WireError}
+use Rattle.guest_wire.specs.declared.wires.WireError.TheVariants as errors
 use Rattle.guest_wire.specs.declared.wires.WireRefusal.{WireRefusal}
 use Rattle.guest_wire.specs.declared.wires.WireRefusal.TheVariants as refusals
 use Rattle.plain_file.specs.Counts.{Rose}
-use Rattle.guest_wire.specs.Wires.{WireView, Boards, Sent, world_at, IsStep, IsStepOrNot}
+use Rattle.guest_wire.specs.Wires.{WireView, Boards, Sent, world_at, Honest}
 use Rattle.guest_wire.specs.Requests.{sent}
 
 -- the reply, where it is to this number
@@ -35,18 +37,23 @@ Judges says reply bytes (Err (refusals.BadReply bad)) = (reply ≡ None) × (bad
 Judges says reply bytes (Err refusals.WireFault) = ⊥
 Judges says reply bytes (Err refusals.Memory) = ⊥
 
--- These bytes were received: they stand in what the wire gives for the message, which its bytes spell. Over an honest wire they are the device's step.
-pub record Receives {S : Type 0} (wire : S → WireView) (gives : S → Boards → Sent → List ℕ → S → Boards → Type 0) (before : S) (old : Boards) (m : Message) (bytes : List ℕ) (after : S) (new : Boards) : Type 0 where
+-- A message was sent, and this came of it: its bytes spell it, and what came stands in what the wire gives for them.
+pub record IsSent {S : Type 0} (wire : S → WireView) (gives : S → Boards → Sent → Result (List ℕ) WireError → S → Boards → Type 0) (before : S) (old : Boards) (m : Message) (came : Result (List ℕ) WireError) (after : S) (new : Boards) : Type 0 where
   pub spelled : Spells m (clean_message m)
-  pub given : gives before old (sent m) bytes after new
-  pub step : (wire before).honest ≡ true → IsStep (world_at (wire before) old) (sent m) bytes (world_at (wire after) new)
+  pub given : gives before old (sent m) came after new
+  pub honest : (wire before).honest ≡ true → Honest (wire before) (world_at (wire before) old) (sent m) came (world_at (wire after) new)
 
--- What a call answers that sends one message: by the bytes that were received, but for a fault of the wire and want of memory. An honest wire neither fails nor brings back bytes that are no reply.
-abbrev pub Answers : {S V : Type 0} → (S → WireView) → (S → Boards → Sent → List ℕ → S → Boards → Type 0) → (V → Reply → Type 0) → S → Boards → Message → Result V WireRefusal → S → Boards → Type 0
-Answers wire gives says before old m (Err refusals.WireFault) after new = Rose (wire before).faults (wire after).faults × ((wire before).honest ≡ false)
-Answers wire gives says before old m (Err refusals.Memory) after new = (wire before).honest ≡ true → IsStepOrNot (world_at (wire before) old) (sent m) (world_at (wire after) new)
-Answers wire gives says before old m (Err (refusals.BadReply bad)) after new = ((wire before).honest ≡ false) × ((bytes : List ℕ) × Receives wire gives before old m bytes after new × Judges says (heard m bytes) bytes (Err (refusals.BadReply bad)))
-Answers wire gives says before old m result after new = (bytes : List ℕ) × Receives wire gives before old m bytes after new × Judges says (heard m bytes) bytes result
+-- nothing was sent
+pub record IsUnsent {S : Type 0} (before : S) (old : Boards) (after : S) (new : Boards) : Type 0 where
+  pub wire : after ≡ before
+  pub boards : new ≡ old
+
+-- What a call answers that sends one message: by the bytes that were received, or by the fault of the wire. An honest wire neither fails nor brings back bytes that are no reply. For want of memory nothing was sent, or the wire had none, or there was none for what the bytes say.
+abbrev pub Answers : {S V : Type 0} → (S → WireView) → (S → Boards → Sent → Result (List ℕ) WireError → S → Boards → Type 0) → (V → Reply → Type 0) → S → Boards → Message → Result V WireRefusal → S → Boards → Type 0
+Answers wire gives says before old m (Err refusals.WireFault) after new = ((wire before).honest ≡ false) × Rose (wire before).faults (wire after).faults × IsSent wire gives before old m (Err errors.Fault) after new
+Answers wire gives says before old m (Err refusals.Memory) after new = IsUnsent before old after new ⊎ IsSent wire gives before old m (Err errors.Memory) after new ⊎ ((bytes : List ℕ) × IsSent wire gives before old m (Ok bytes) after new)
+Answers wire gives says before old m (Err (refusals.BadReply bad)) after new = ((wire before).honest ≡ false) × ((bytes : List ℕ) × IsSent wire gives before old m (Ok bytes) after new × Judges says (heard m bytes) bytes (Err (refusals.BadReply bad)))
+Answers wire gives says before old m result after new = (bytes : List ℕ) × IsSent wire gives before old m (Ok bytes) after new × Judges says (heard m bytes) bytes result
 
 -- a handle was opened
 abbrev pub SaysOpened : ℕ → Reply → Type 0

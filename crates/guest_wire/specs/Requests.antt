@@ -1,5 +1,5 @@
 -- The requests of a driver, and what is asked of boards for them.
-use Rattle.std.specs.Prelude.{◌≡◌, ℕ, ◌+◌, ◌-◌, ◌*◌, ◌^◌, ◌==◌, Bool, true, List, [], ◌∷◌, length, None, if◌then◌else◌}
+use Rattle.std.specs.Prelude.{◌≡◌, ℕ, ◌+◌, ◌-◌, ◌*◌, ◌^◌, ◌==◌, Bool, true, false, List, [], ◌∷◌, length, None, if◌then◌else◌}
 use Rattle.fuse_wire.specs.declared.attributes.SetattrIn.{SetattrIn}
 use Rattle.fuse_wire.specs.declared.mappings.RemoveOne.{RemoveOne}
 use Rattle.fuse_wire.specs.declared.records.WriteIn.{WriteIn}
@@ -7,12 +7,14 @@ use Rattle.fuse_codec.specs.Grammar.{clean_message}
 use Rattle.fuse_codec.specs.declared.messages.Message.{Message}
 use Rattle.fuse_codec.specs.declared.messages.Request.{Request}
 use Rattle.fuse_codec.specs.declared.messages.Request.TheVariants as asks
+use Rattle.page_map.specs.Window.{range_size}
 use Rattle.page_map.specs.declared.pages.Mode.{Mode}
 use Rattle.page_map.specs.declared.pages.Mode.TheVariants as modes
+use Rattle.fuse_device.specs.State.{State}
 use Rattle.fuse_device.specs.Steps.{wanted_room}
 use Rattle.fuse_device.specs.Promises.{CanServe}
 use Rattle.guest_wire.specs.declared.driver.FileRef.{FileRef}
-use Rattle.guest_wire.specs.Wires.{WireView, Boards, Sent}
+use Rattle.guest_wire.specs.Wires.{WireView, Boards, Sent, CanShare}
 
 -- the number after this one: after the last u64 it is 1 again
 abbrev pub next_number : ℕ → ℕ
@@ -26,15 +28,16 @@ message unique node body = record { head = record { unique = unique; nodeid = no
 abbrev pub sent : Message → Sent
 sent m = record { bytes = clean_message m; room = wanted_room m.body }
 
+-- the boards serve this request, by whether the daemon stays as it is
+abbrev pub ServesRequest : Bool → State → Boards → Request → Type 0
+ServesRequest true s b q = CanShare s b
+ServesRequest false s b q = CanServe s b.files b.map q
+
 -- the boards serve this request, where the wire is honest
 abbrev pub CanAsk : WireView → Boards → Request → Type 0
-CanAsk w b q = w.honest ≡ true → CanServe w.state b.files b.map q
+CanAsk w b q = w.honest ≡ true → ServesRequest w.stays w.state b q
 
 -- ---- the requests
-
--- how many bytes a chunk of a file has, and a range of the window
-abbrev pub chunk_len : ℕ
-chunk_len = 2097152
 
 -- version 7.31, with bit 26 of the flags (FUSE_MAP_ALIGNMENT) where the window's alignment is asked for
 abbrev pub init_request : Bool → Request
@@ -91,15 +94,15 @@ setup_flags modes.W = 3
 abbrev pub setup_request : ℕ → ℕ → Mode → Request
 setup_request chunk range mode = asks.Setup (record {
   fh = 2 ^ 64 - 1;
-  foffset = chunk_len * chunk;
-  len = chunk_len;
+  foffset = range_size * chunk;
+  len = range_size;
   flags = setup_flags mode;
-  moffset = chunk_len * range;
+  moffset = range_size * range;
 })
 
 -- a whole range
 abbrev pub whole_range : ℕ → RemoveOne
-whole_range range = record { moffset = chunk_len * range; len = chunk_len }
+whole_range range = record { moffset = range_size * range; len = range_size }
 
 -- a whole range out of the window
 abbrev pub remove_request : ℕ → Request

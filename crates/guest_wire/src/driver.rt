@@ -17,6 +17,7 @@ use fuse_codec::{BadReply, Head, Message, Opcode, Reply, Request, decode_reply, 
 use page_map::MapBoard;
 use plain_file::{Blob, FileBoard};
 use std::alloc::Global;
+use std::sync::Wait;
 
 /// An open file: a node and the number of a handle of it.
 #[derive(Clone, Copy, Debug, PartialEq, Eq)]
@@ -28,13 +29,15 @@ pub struct FileRef {
 }
 
 /// The client. Each call sends one request with the next number, from 1 on and after the last u64 from 1
-/// again, which is used up whatever is answered. What a call answers is told by the bytes received
-/// in it, which are those that the wire gives for this request.
+/// again, which is used up whatever is answered. The request is sent once, whatever comes of it, and
+/// only where memory for its bytes was refused not at all. What a call answers is told by what came of
+/// the request, which is what the wire gives for it. A call waits where its wire does.
 ///
-/// Where the wire is honest, the boards serve the request, as `Daemon::serve` asks for: each made file
-/// is on the board, ready, and the map has as many pages as the daemon. Over an honest wire the bytes,
-/// the daemon and the boards afterwards are the device's step at the request. Whatever is answered,
-/// boards keep what [`Wire::submit`] keeps.
+/// Where the wire is honest, the boards serve the request. Over a wire to the whole daemon that is what
+/// `Daemon::serve` asks for: each made file is on the board, ready, and the map has as many pages as the
+/// daemon. Over one to a daemon that stays as it is, no file has to be ready, but no turn is had. Over an
+/// honest wire the bytes, the daemon and the boards afterwards are the daemon's step at the request.
+/// Whatever is answered, boards keep what [`Wire::submit`] keeps.
 ///
 /// # Errors
 ///
@@ -75,8 +78,9 @@ impl<W> Driver<W> {
     }
 
     // Sends one message, and judges the bytes that were received for it.
-    pub(crate) fn ask<F: FileBoard, M: MapBoard>(
+    pub(crate) fn ask<R: Wait, F: FileBoard, M: MapBoard>(
         &mut self,
+        rt: &R,
         alloc: Global,
         unique: u64,
         node: u64,
@@ -101,7 +105,7 @@ impl<W> Driver<W> {
         let room = wanted_room(&message.body);
         match self
             .wire
-            .submit(alloc, request.as_slice(), room, files, map)
+            .submit(rt, alloc, request.as_slice(), room, files, map)
         {
             Ok(bytes) => hear(alloc, &message, room, bytes),
             Err(WireError::Fault) => Err(WireRefusal::WireFault),

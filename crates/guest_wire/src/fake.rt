@@ -1,5 +1,4 @@
-ghost use Rattle.std.specs.Prelude.{◌≡◌, ◌∷◌, IfOk};
-ghost use Rattle.guest_wire.specs.declared.fake.WireStep.TheVariants as steps;
+ghost use Rattle.std.specs.Prelude.{◌≡◌};
 ghost use Rattle.guest_wire.specs.Wires.{boards, HasCause, KeepsWire};
 ghost use Rattle.guest_wire.specs.Keeps.{KeepsBoards};
 ghost use Rattle.guest_wire.specs.Fakes.{fake_wire, taken};
@@ -9,6 +8,7 @@ use page_map::MapBoard;
 use plain_file::{Blob, FileBoard, List};
 use std::alloc::Global;
 use std::marker::Model;
+use std::sync::Wait;
 
 /// What a [`FakeWire`] does at one submit.
 #[derive(Debug, Drop)]
@@ -52,12 +52,13 @@ impl FakeWire {
 impl<F: FileBoard, M: MapBoard> Wire<F, M> for FakeWire {
     ghost wire = { fake_wire };
 
-    ghost gives = { λ before old sent bytes after new. (before.left ≡ steps.Bytes bytes ∷ after.left) × (after.faults ≡ before.faults) × (new ≡ old) };
+    ghost gives = { λ before old sent result after new. ((result, after) ≡ taken before before.left) × (new ≡ old) };
 
-    /// Takes the next step: answers its bytes, or fails.
+    /// Takes the next step: answers its bytes, or fails. It doesn't wait.
     #[tactic(auto, unfolding(crate::specs::Fakes::taken))]
-    fn submit(
+    fn submit<R: Wait>(
         &mut self,
+        rt: &R,
         alloc: Global,
         readable: &[u8],
         room: u32,
@@ -67,9 +68,8 @@ impl<F: FileBoard, M: MapBoard> Wire<F, M> for FakeWire {
         ensures step { (result, self.new) ≡ taken self.old self.old.left }
         ensures files { F.board files.new ≡ F.board files.old }
         ensures map { M.map map.new ≡ M.map map.old }
-        ensures given { IfOk result (λ bytes. (self.old.left ≡ steps.Bytes bytes ∷ self.new.left)
-            × (self.new.faults ≡ self.old.faults)
-            × (boards (F.board files.new) (M.map map.new) ≡ boards (F.board files.old) (M.map map.old))) }
+        ensures given { ((result, self.new) ≡ taken self.old self.old.left)
+            × (boards (F.board files.new) (M.map map.new) ≡ boards (F.board files.old) (M.map map.old)) }
         ensures fault { HasCause self.old.faults result self.new.faults }
         ensures wire { KeepsWire (fake_wire self.old) (fake_wire self.new) }
         ensures boards { KeepsBoards (boards (F.board files.old) (M.map map.old))

@@ -18,6 +18,7 @@ use fuse_wire::{
 use page_map::MapBoard;
 use plain_file::{Blob, FileBoard};
 use std::alloc::Global;
+use std::sync::Wait;
 
 // Opens for reading and writing: O_RDWR of Linux.
 const O_RDWR: u32 = 2;
@@ -25,8 +26,9 @@ const O_RDWR: u32 = 2;
 impl<W> Driver<W> {
     /// Opens a file for reading and writing: OPEN with O_RDWR. The answer is the handle's number.
     #[tactic(auto, unfolding(fuse_codec::specs::Grammar::is_bounded, fuse_codec::specs::Grammar::kind_of, fuse_codec::specs::Grammar::asked, fuse_codec::specs::Grammar::form_room, fuse_codec::specs::Opcodes::reply_form, fuse_codec::specs::Replies::answered))]
-    pub fn open_file<F: FileBoard, M: MapBoard>(
+    pub fn open_file<R: Wait, F: FileBoard, M: MapBoard>(
         &mut self,
+        rt: &R,
         alloc: Global,
         node: u64,
         files: &mut F,
@@ -50,14 +52,15 @@ impl<W> Driver<W> {
             flags: O_RDWR,
             open_flags: 0,
         });
-        let reply = self.ask(alloc, unique, node, body, files, map)?;
+        let reply = self.ask(rt, alloc, unique, node, body, files, map)?;
         Ok(opened_in(reply).fh)
     }
 
     /// Gives a handle back: RELEASE.
     #[tactic(auto, unfolding(fuse_codec::specs::Grammar::is_bounded, fuse_codec::specs::Grammar::kind_of, fuse_codec::specs::Grammar::asked, fuse_codec::specs::Grammar::form_room, fuse_codec::specs::Opcodes::reply_form, fuse_codec::specs::Replies::answered))]
-    pub fn release<F: FileBoard, M: MapBoard>(
+    pub fn release<R: Wait, F: FileBoard, M: MapBoard>(
         &mut self,
+        rt: &R,
         alloc: Global,
         at: FileRef,
         files: &mut F,
@@ -83,15 +86,16 @@ impl<W> Driver<W> {
             release_flags: 0,
             lock_owner: 0,
         });
-        let reply = self.ask(alloc, unique, at.node, body, files, map)?;
+        let reply = self.ask(rt, alloc, unique, at.node, body, files, map)?;
         done(reply);
         Ok(())
     }
 
     /// The attributes of an open file: GETATTR with FUSE_GETATTR_FH.
     #[tactic(auto, unfolding(fuse_codec::specs::Grammar::is_bounded, fuse_codec::specs::Grammar::kind_of, fuse_codec::specs::Grammar::asked, fuse_codec::specs::Grammar::form_room, fuse_codec::specs::Opcodes::reply_form, fuse_codec::specs::Replies::answered))]
-    pub fn getattr<F: FileBoard, M: MapBoard>(
+    pub fn getattr<R: Wait, F: FileBoard, M: MapBoard>(
         &mut self,
+        rt: &R,
         alloc: Global,
         at: FileRef,
         files: &mut F,
@@ -115,15 +119,16 @@ impl<W> Driver<W> {
             getattr_flags: FUSE_GETATTR_FH,
             fh: at.fh,
         });
-        let reply = self.ask(alloc, unique, at.node, body, files, map)?;
+        let reply = self.ask(rt, alloc, unique, at.node, body, files, map)?;
         Ok(attr_in(reply))
     }
 
     /// Gives an open file a size in bytes: SETATTR with FATTR_SIZE and FATTR_FH. The answer has the
     /// attributes afterwards.
     #[tactic(auto, unfolding(fuse_codec::specs::Grammar::is_bounded, fuse_codec::specs::Grammar::kind_of, fuse_codec::specs::Grammar::asked, fuse_codec::specs::Grammar::form_room, fuse_codec::specs::Opcodes::reply_form, fuse_codec::specs::Replies::answered))]
-    pub fn setattr_size<F: FileBoard, M: MapBoard>(
+    pub fn setattr_size<R: Wait, F: FileBoard, M: MapBoard>(
         &mut self,
+        rt: &R,
         alloc: Global,
         at: FileRef,
         size: u64,
@@ -145,15 +150,16 @@ impl<W> Driver<W> {
     {
         let unique = self.next_unique();
         let body = Request::Setattr(size_for(at.fh, size));
-        let reply = self.ask(alloc, unique, at.node, body, files, map)?;
+        let reply = self.ask(rt, alloc, unique, at.node, body, files, map)?;
         Ok(attr_in(reply))
     }
 
     /// Reads from an open file: READ of `len` bytes from the offset `off` on, 1 to 1,048,576. The answer
     /// may be fewer, as at the file's end.
     #[tactic(auto, unfolding(fuse_codec::specs::Grammar::is_bounded, fuse_codec::specs::Grammar::kind_of, fuse_codec::specs::Grammar::asked, fuse_codec::specs::Grammar::form_room, fuse_codec::specs::Opcodes::reply_form, fuse_codec::specs::Replies::answered))]
-    pub fn read<F: FileBoard, M: MapBoard>(
+    pub fn read<R: Wait, F: FileBoard, M: MapBoard>(
         &mut self,
+        rt: &R,
         alloc: Global,
         at: FileRef,
         off: u64,
@@ -185,15 +191,16 @@ impl<W> Driver<W> {
             lock_owner: 0,
             flags: 0,
         });
-        let reply = self.ask(alloc, unique, at.node, body, files, map)?;
+        let reply = self.ask(rt, alloc, unique, at.node, body, files, map)?;
         Ok(bytes_in(reply))
     }
 
     /// Writes to an open file: WRITE of the bytes, 1 to 1,048,576, from the offset `off` on. The answer is
     /// how many were written.
     #[tactic(auto, unfolding(fuse_codec::specs::Grammar::is_bounded, fuse_codec::specs::Grammar::kind_of, fuse_codec::specs::Grammar::asked, fuse_codec::specs::Grammar::form_room, fuse_codec::specs::Opcodes::reply_form, fuse_codec::specs::Replies::answered))]
-    pub fn write<F: FileBoard, M: MapBoard>(
+    pub fn write<R: Wait, F: FileBoard, M: MapBoard>(
         &mut self,
+        rt: &R,
         alloc: Global,
         at: FileRef,
         off: u64,
@@ -220,7 +227,7 @@ impl<W> Driver<W> {
         let bytes = Blob::copy_of(alloc, bytes)?;
         let head = write_at(at.fh, off, bytes.len() as u32);
         let body = Request::Write { head, bytes };
-        let reply = self.ask(alloc, unique, at.node, body, files, map)?;
+        let reply = self.ask(rt, alloc, unique, at.node, body, files, map)?;
         Ok(wrote_in(reply).size)
     }
 }

@@ -1,14 +1,15 @@
-ghost use Rattle.std.specs.Prelude.{◌≡◌, ◌≤◌, [], ◌∷◌, ◌++◌, length, true, IfOk};
+ghost use Rattle.std.specs.Prelude.{◌≡◌, ◌≤◌, [], length, true};
 ghost use Rattle.fuse_codec.specs.Grammar.{max_part};
 ghost use Rattle.guest_wire.specs.Wires.{boards, sending, world_at, CanSubmit, Honest, HasCause, KeepsWire};
 ghost use Rattle.guest_wire.specs.Keeps.{KeepsBoards};
-ghost use Rattle.guest_wire.specs.Kept.{KeepsRequest};
+ghost use Rattle.guest_wire.specs.Kept.{Passes};
 
 use crate::wires::{Wire, WireError};
 use page_map::MapBoard;
 use plain_file::{Blob, FileBoard, List};
 use std::alloc::Global;
 use std::marker::Model;
+use std::sync::Wait;
 
 /// A wire that passes each request on to another wire, and keeps it. It is honest where the other one
 /// is, stands over the same, and has its count of faults and its daemon.
@@ -48,12 +49,13 @@ impl<W> KeepWire<W> {
 impl<F: FileBoard, M: MapBoard, W: Wire<F, M>> Wire<F, M> for KeepWire<W> {
     ghost wire = { λ k. W.wire k.inner };
 
-    ghost gives = { λ before old sent bytes after new. W.gives before.inner old sent bytes after.inner new × (after.requests ≡ before.requests ++ sent.bytes ∷ []) };
+    ghost gives = { λ before old sent result after new. Passes W.gives before old sent result after new };
 
     /// Keeps the request, then submits it to the other wire. `Memory` comes also where there is no
     /// room to keep it; nothing was submitted then.
-    fn submit(
+    fn submit<R: Wait>(
         &mut self,
+        rt: &R,
         alloc: Global,
         readable: &[u8],
         room: u32,
@@ -64,14 +66,12 @@ impl<F: FileBoard, M: MapBoard, W: Wire<F, M>> Wire<F, M> for KeepWire<W> {
         requires room { room ≤ max_part }
         requires boards { CanSubmit (W.wire self.old.inner)
             (boards (F.board files.old) (M.map map.old)) readable.now }
-        ensures kept { KeepsRequest self.old.requests readable.now result self.new.requests }
-        ensures given { IfOk result (λ bytes.
-            W.gives self.old.inner (boards (F.board files.old) (M.map map.old))
-            (sending readable.now room) bytes
-            self.new.inner (boards (F.board files.new) (M.map map.new))
-            × (self.new.requests ≡ self.old.requests ++ readable.now ∷ [])) }
+        ensures given { Passes W.gives self.old (boards (F.board files.old) (M.map map.old))
+            (sending readable.now room) result
+            self.new (boards (F.board files.new) (M.map map.new)) }
         ensures honest { (W.wire self.old.inner).honest ≡ true →
-            Honest (world_at (W.wire self.old.inner) (boards (F.board files.old) (M.map map.old)))
+            Honest (W.wire self.old.inner)
+            (world_at (W.wire self.old.inner) (boards (F.board files.old) (M.map map.old)))
             (sending readable.now room) result
             (world_at (W.wire self.new.inner) (boards (F.board files.new) (M.map map.new))) }
         ensures fault { HasCause (W.wire self.old.inner).faults result
@@ -82,6 +82,6 @@ impl<F: FileBoard, M: MapBoard, W: Wire<F, M>> Wire<F, M> for KeepWire<W> {
     {
         let copy = Blob::copy_of(alloc, readable)?;
         self.requests.push(copy)?;
-        self.inner.submit(alloc, readable, room, files, map)
+        self.inner.submit(rt, alloc, readable, room, files, map)
     }
 }

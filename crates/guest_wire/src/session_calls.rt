@@ -14,14 +14,16 @@ use fuse_wire::{EntryOut, FUSE_MAP_ALIGNMENT, InitIn, InitOut};
 use page_map::MapBoard;
 use plain_file::{FileBoard, Memory, Name};
 use std::alloc::Global;
+use std::sync::Wait;
 
 impl<W> Driver<W> {
     /// Begins a session: INIT of version 7.31, with a read-ahead of 131,072 bytes, about no node (0).
     /// Where `ask_map` says so, the alignment of the window is asked for (FUSE_MAP_ALIGNMENT). The answer
     /// is what the device agrees to.
     #[tactic(auto, unfolding(fuse_codec::specs::Grammar::is_bounded, fuse_codec::specs::Grammar::kind_of, fuse_codec::specs::Grammar::asked, fuse_codec::specs::Grammar::form_room, fuse_codec::specs::Opcodes::reply_form, fuse_codec::specs::Replies::answered))]
-    pub fn init<F: FileBoard, M: MapBoard>(
+    pub fn init<R: Wait, F: FileBoard, M: MapBoard>(
         &mut self,
+        rt: &R,
         alloc: Global,
         ask_map: bool,
         files: &mut F,
@@ -48,15 +50,16 @@ impl<W> Driver<W> {
             flags: if ask_map { FUSE_MAP_ALIGNMENT } else { 0 },
             flags2: None,
         });
-        let reply = self.ask(alloc, unique, 0, body, files, map)?;
+        let reply = self.ask(rt, alloc, unique, 0, body, files, map)?;
         Ok(init_in(reply))
     }
 
     /// Ends the session: DESTROY, which is about no node (0). Where the wire is honest, the map lets the
     /// whole window be cleared.
     #[tactic(auto, unfolding(fuse_codec::specs::Grammar::is_bounded, fuse_codec::specs::Grammar::kind_of, fuse_codec::specs::Grammar::asked, fuse_codec::specs::Grammar::form_room, fuse_codec::specs::Opcodes::reply_form, fuse_codec::specs::Replies::answered))]
-    pub fn destroy<F: FileBoard, M: MapBoard>(
+    pub fn destroy<R: Wait, F: FileBoard, M: MapBoard>(
         &mut self,
+        rt: &R,
         alloc: Global,
         files: &mut F,
         map: &mut M,
@@ -75,15 +78,16 @@ impl<W> Driver<W> {
             (boards (F.board files.new) (M.map map.new)) }
     {
         let unique = self.next_unique();
-        let reply = self.ask(alloc, unique, 0, Request::Destroy, files, map)?;
+        let reply = self.ask(rt, alloc, unique, 0, Request::Destroy, files, map)?;
         done(reply);
         Ok(())
     }
 
     /// Looks a name up in the directory, which is node 1: LOOKUP.
     #[tactic(auto, unfolding(fuse_codec::specs::Grammar::is_bounded, fuse_codec::specs::Grammar::kind_of, fuse_codec::specs::Grammar::asked, fuse_codec::specs::Grammar::form_room, fuse_codec::specs::Opcodes::reply_form, fuse_codec::specs::Replies::answered))]
-    pub fn lookup<F: FileBoard, M: MapBoard>(
+    pub fn lookup<R: Wait, F: FileBoard, M: MapBoard>(
         &mut self,
+        rt: &R,
         alloc: Global,
         name: &Name,
         files: &mut F,
@@ -105,7 +109,7 @@ impl<W> Driver<W> {
         let unique = self.next_unique();
         let name = copy_of(name)?;
         let body = Request::Lookup { name };
-        let reply = self.ask(alloc, unique, 1, body, files, map)?;
+        let reply = self.ask(rt, alloc, unique, 1, body, files, map)?;
         Ok(entry_in(reply))
     }
 }

@@ -14,6 +14,7 @@ use fuse_wire::{FUSE_SETUPMAPPING_FLAG_READ, FUSE_SETUPMAPPING_FLAG_WRITE, Remov
 use page_map::{MapBoard, Mode};
 use plain_file::{FileBoard, List, Memory};
 use std::alloc::Global;
+use std::sync::Wait;
 
 // How many bytes a chunk of a file has, and a range of the window.
 const CHUNK: u64 = 2_097_152;
@@ -23,8 +24,9 @@ impl<W> Driver<W> {
     /// ones), for reading, or for reading and writing where `mode` is `W`. Chunks of the file and ranges
     /// of the window have 2,097,152 bytes and are numbered from 0.
     #[tactic(auto, unfolding(fuse_codec::specs::Grammar::is_bounded, fuse_codec::specs::Grammar::kind_of, fuse_codec::specs::Grammar::asked, fuse_codec::specs::Grammar::form_room, fuse_codec::specs::Opcodes::reply_form, fuse_codec::specs::Replies::answered))]
-    pub fn setup<F: FileBoard, M: MapBoard>(
+    pub fn setup<R: Wait, F: FileBoard, M: MapBoard>(
         &mut self,
+        rt: &R,
         alloc: Global,
         node: u64,
         chunk: u32,
@@ -54,7 +56,7 @@ impl<W> Driver<W> {
             flags: setup_flags(mode),
             moffset: CHUNK * range as u64,
         });
-        let reply = self.ask(alloc, unique, node, body, files, map)?;
+        let reply = self.ask(rt, alloc, unique, node, body, files, map)?;
         done(reply);
         Ok(())
     }
@@ -62,8 +64,9 @@ impl<W> Driver<W> {
     /// Unmaps a whole range of the window, of 2,097,152 bytes: REMOVEMAPPING with one interval. The
     /// request is about `node`, which the device doesn't look at.
     #[tactic(auto, unfolding(fuse_codec::specs::Grammar::is_bounded, fuse_codec::specs::Grammar::kind_of, fuse_codec::specs::Grammar::asked, fuse_codec::specs::Grammar::form_room, fuse_codec::specs::Opcodes::reply_form, fuse_codec::specs::Replies::answered))]
-    pub fn remove<F: FileBoard, M: MapBoard>(
+    pub fn remove<R: Wait, F: FileBoard, M: MapBoard>(
         &mut self,
+        rt: &R,
         alloc: Global,
         node: u64,
         range: u32,
@@ -86,7 +89,7 @@ impl<W> Driver<W> {
         let unique = self.next_unique();
         let ones = one_range(alloc, range)?;
         let body = Request::Remove { ones };
-        let reply = self.ask(alloc, unique, node, body, files, map)?;
+        let reply = self.ask(rt, alloc, unique, node, body, files, map)?;
         done(reply);
         Ok(())
     }

@@ -1,28 +1,24 @@
-use Rattle.std.proofs.Common.{◌≡◌, ◌∙◌, ap, subst}
+use Rattle.std.proofs.Common.{◌≡◌, ◌∙◌, ap, subst, true, ℕ, List, Result, Ok, Err, inl, inr, refl}
 use Rattle.fuse_codec.specs.Grammar.{clean_message, Spells}
 use Rattle.fuse_codec.specs.declared.messages.Message.{Message}
 use Rattle.fuse_device.specs.Steps.{wanted_room}
-use Rattle.guest_wire.specs.Wires.{Sent, boards, sending, world_at, IsStep}
+use Rattle.guest_wire.specs.Wires.{WireView, Boards, Sent, boards, sending, world_at, Honest}
 use Rattle.guest_wire.specs.Requests.{message, sent}
-use Rattle.guest_wire.specs.Answers.{JudgesOrNot, Receives, heard}
-use Rattle.guest_wire.proofs.Hearing.{answers_heard}
+use Rattle.guest_wire.specs.Answers.{JudgesOrNot, IsSent, heard}
+use Rattle.guest_wire.specs.declared.wires.WireError.{WireError}
+use Rattle.guest_wire.specs.declared.wires.WireError.TheVariants as errors
+use Rattle.guest_wire.proofs.Hearing.{answers_heard, answers_fault}
 use Rattle.guest_wire.proofs.driver.Driver.ask.Goals as goal
 
-pub returns-in-Ok-clause-answer : goal.returns-in-Ok-clause-answer
-returns-in-Ok-clause-answer g c =
-    let m = message c.args.unique c.args.node c.args.body in
-    let is : c.message_of-message.result ≡ m = c.message_of-message.ensures in
-    let bytes : c.as_slice.result.now ≡ clean_message m = c.as_slice.ensures ∙ c.in_ok-request.ensures.clean ∙ ap clean_message is in
-    let room : c.wanted_room-room.result ≡ wanted_room m.body = c.wanted_room-room.ensures ∙ ap (λ (x : Message). wanted_room x.body) is in
-    let submitted : sending c.as_slice.result.now c.wanted_room-room.result ≡ sent m = λ i. sending (bytes i) (room i) in
-    let old = boards (g.F.FileBoard.board c.args.files.now) (g.M.MapBoard.map c.args.map.now) in
-    let new = boards (g.F.FileBoard.board c.submit.new.files) (g.M.MapBoard.map c.submit.new.map) in
-    let before = c.args.self.now.wire in
-    let after = c.submit.new.self in
-    let received : Receives g.W.Wire.wire g.W.Wire.gives before old m c.in-Ok.bytes after new = record {
-      spelled = subst (λ (x : Message). Spells x (clean_message x)) is (subst (λ b. Spells c.message_of-message.result b) c.in_ok-request.ensures.clean c.in_ok-request.ensures.spelled);
-      given = subst (λ (s : Sent). g.W.Wire.gives before old s c.in-Ok.bytes after new) submitted c.in-Ok.ensures.given;
-      step = λ honest. subst (λ (s : Sent). IsStep (world_at (g.W.Wire.wire before) old) s c.in-Ok.bytes (world_at (g.W.Wire.wire after) new)) submitted (c.in-Ok.ensures.honest honest);
-    } in
-    answers_heard g.W.Wire.wire g.W.Wire.gives before old m c.in-Ok.bytes c.hear.result after new c.requires.answered received
-    (subst (λ (x : Message). JudgesOrNot (heard x c.in-Ok.bytes) c.in-Ok.bytes c.hear.result) is c.hear.ensures.heard)
+-- what was submitted is the message's bytes and room
+is_sent : {S : Type 0} (wire : S → WireView) (gives : S → Boards → Sent → Result (List ℕ) WireError → S → Boards → Type 0) (before : S) (old : Boards) (m n : Message) (bytes : List ℕ) (room : ℕ) (came : Result (List ℕ) WireError) (after : S) (new : Boards)
+    → n ≡ m → bytes ≡ clean_message n → Spells n bytes → room ≡ wanted_room n.body → gives before old (sending bytes room) came after new
+    → ((wire before).honest ≡ true → Honest (wire before) (world_at (wire before) old) (sending bytes room) came (world_at (wire after) new)) → IsSent wire gives before old m came after new
+is_sent wire gives before old m n bytes room came after new is clean spelled roomy given honest =
+    let all : clean_message n ≡ clean_message m = ap clean_message is in
+    let submitted : sending bytes room ≡ sent m = λ i. sending ((clean ∙ all) i) ((roomy ∙ ap (λ (x : Message). wanted_room x.body) is) i) in
+    record {
+      spelled = subst (λ (x : Message). Spells x (clean_message x)) is (subst (λ b. Spells n b) clean spelled);
+      given = subst (λ (s : Sent). gives before old s came after new) submitted given;
+      honest = λ h. subst (λ (s : Sent). Honest (wire before) (world_at (wire before) old) s came (world_at (wire after) new)) submitted (honest h);
+    }
