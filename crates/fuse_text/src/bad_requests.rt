@@ -25,8 +25,8 @@ pub fn line_of_bad(alloc: Global, bad: &BadRequest) -> Result<Blob, Memory>
 
 /// Appends the line of a bad request, as [`line_of_bad`] gives it.
 ///
-/// `Memory` is its only error. What stood in the buffer still stands at its front then, and behind it
-/// may stand a part of the line.
+/// `Memory` is its only error. What stood in the buffer still stands at its front then; nothing is
+/// promised of what stands behind it.
 #[tactic(auto, unfolding(crate::specs::Lines::bad_line))]
 pub fn put_bad_line(out: &mut Vec<u8>, bad: &BadRequest) -> Result<(), Memory>
     requires { bad.now ≢ bad_requests.Memory }

@@ -21,8 +21,8 @@ pub(crate) use put_fields;
 
 /// Appends a field with a number: ` name=value`, in decimal.
 ///
-/// After `Memory` what stood in the buffer still stands at its front, and behind it may stand a part
-/// of the field.
+/// After `Memory` what stood in the buffer still stands at its front; nothing is promised of what
+/// stands behind it.
 #[tactic(auto, unfolding(crate::specs::FieldText::field))]
 pub fn put_field(out: &mut Vec<u8>, name: &str, value: u64) -> Result<(), Memory>
     ensures text { OnOk result (out.new.items ≡ out.old.items ++ field name.now value) }
@@ -38,8 +38,8 @@ pub fn put_field(out: &mut Vec<u8>, name: &str, value: u64) -> Result<(), Memory
 /// Appends a field with bytes: ` name=` and two hexadecimal digits a byte, in lower case, and
 /// ` name=` alone where there are no bytes.
 ///
-/// After `Memory` what stood in the buffer still stands at its front, and behind it may stand a part
-/// of the field.
+/// After `Memory` what stood in the buffer still stands at its front; nothing is promised of what
+/// stands behind it.
 #[tactic(auto, unfolding(crate::specs::FieldText::hex_field))]
 pub fn put_hex_field(out: &mut Vec<u8>, name: &str, bytes: &[u8]) -> Result<(), Memory>
     ensures text { OnOk result (out.new.items ≡ out.old.items ++ hex_field name.now bytes.now) }

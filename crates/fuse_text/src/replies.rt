@@ -30,8 +30,8 @@ pub fn line_of_reply(alloc: Global, reply: &Reply, unique: u64) -> Result<Blob, 
 
 /// Appends the line of a reply, as [`line_of_reply`] gives it.
 ///
-/// `Memory` is its only error. What stood in the buffer still stands at its front then, and behind it
-/// may stand a part of the line.
+/// `Memory` is its only error. What stood in the buffer still stands at its front then; nothing is
+/// promised of what stands behind it.
 pub fn put_reply_line(out: &mut Vec<u8>, reply: &Reply, unique: u64) -> Result<(), Memory>
     ensures text { OnOk result (out.new.items ≡ out.old.items ++ reply_line unique reply.now) }
     ensures front { Begins out.old.items out.new.items }

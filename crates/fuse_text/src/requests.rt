@@ -37,8 +37,8 @@ pub fn line_of(alloc: Global, message: &Message) -> Result<Blob, Memory>
 
 /// Appends the line of a request, as [`line_of`] gives it.
 ///
-/// `Memory` is its only error. What stood in the buffer still stands at its front then, and behind it
-/// may stand a part of the line.
+/// `Memory` is its only error. What stood in the buffer still stands at its front then; nothing is
+/// promised of what stands behind it.
 pub fn put_line(out: &mut Vec<u8>, message: &Message) -> Result<(), Memory>
     ensures text { OnOk result (out.new.items ≡ out.old.items ++ request_line message.now) }
     ensures front { Begins out.old.items out.new.items }
