@@ -157,6 +157,33 @@ fn std_sinks_flush(rt: HostRuntime) {
 }
 
 #[test]
+fn words_stand_behind_the_name(rt: HostRuntime) -> Result<(), Fail> {
+    let alloc = rt.alloc();
+    let mut args = Vec::new(alloc);
+    for arg in ["program", "script", ""] {
+        args.push(String::from_str(alloc, arg)?)?;
+    }
+    let words = command_words(alloc, Ok(args.into_iter()))?;
+    assert_eq!(rt; words.len(), 2);
+    assert_eq!(rt;
+        words.get(0).map(|word| word.as_slice()),
+        Some(b"script".as_slice())
+    );
+    assert_eq!(rt;
+        words.get(1).map(|word| word.as_slice()),
+        Some(b"".as_slice())
+    );
+    for (kind, want) in [
+        (ErrorKind::InvalidData, Ok(0)),
+        (ErrorKind::OutOfMemory, Err(Memory)),
+    ] {
+        let words = command_words(alloc, Err(kind.into()));
+        assert_eq!(rt; words.map(|words| words.len()), want);
+    }
+    Ok(())
+}
+
+#[test]
 fn statuses_have_their_numbers(rt: HostRuntime) {
     for (status, want) in [
         (Status::Ok, 0),

@@ -19,6 +19,12 @@ pub fn no_prefix_replies()
     ensures { (f g : ReplyForm) (u v : ℕ) (m n : Reply) (bytes more : List ℕ) → SpellsReply f u m bytes → SpellsReply g v n (bytes ++ more) → more ≡ [] }
 {}
 
+/// No spelling of a request is a proper prefix of a spelling of a reply, nor the other way round.
+pub fn no_prefix_across()
+    ensures requests { (m : Message) (f : ReplyForm) (u : ℕ) (n : Reply) (bytes more : List ℕ) → Spells m bytes → SpellsReply f u n (bytes ++ more) → more ≡ [] }
+    ensures replies { (f : ReplyForm) (u : ℕ) (m : Reply) (n : Message) (bytes more : List ℕ) → SpellsReply f u m bytes → Spells n (bytes ++ more) → more ≡ [] }
+{}
+
 /// The entries that [`put_dirents`](crate::put_dirents) writes are a prefix, their bytes are within
 /// the size, and no longer prefix is.
 pub fn fitting_is_the_longest_prefix()

@@ -1,3 +1,4 @@
 pub mod FieldText
+pub mod Fronts
 pub mod Lines
 pub mod RecordText

@@ -2,6 +2,7 @@
 
 ghost use Rattle.std.specs.Prelude.{◌≡◌, ◌≢◌, ◌++◌, OnOk, IfOk};
 ghost use Rattle.fuse_codec.specs.declared.errors.BadRequest.TheVariants as bad_requests;
+ghost use Rattle.fuse_text.specs.Fronts.{Begins};
 ghost use Rattle.fuse_text.specs.Lines.{bad_line};
 
 use crate::fields::{put, put_field};
@@ -24,12 +25,13 @@ pub fn line_of_bad(alloc: Global, bad: &BadRequest) -> Result<Blob, Memory>
 
 /// Appends the line of a bad request, as [`line_of_bad`] gives it.
 ///
-/// `Memory` is its only error. Nothing is promised of the buffer then: it may end in a part of the
-/// line.
+/// `Memory` is its only error. What stood in the buffer still stands at its front then; nothing is
+/// promised of what stands behind it.
 #[tactic(auto, unfolding(crate::specs::Lines::bad_line))]
 pub fn put_bad_line(out: &mut Vec<u8>, bad: &BadRequest) -> Result<(), Memory>
     requires { bad.now ≢ bad_requests.Memory }
-    ensures { OnOk result (out.new.items ≡ out.old.items ++ bad_line bad.now) }
+    ensures text { OnOk result (out.new.items ≡ out.old.items ++ bad_line bad.now) }
+    ensures front { Begins out.old.items out.new.items }
 {
     match bad {
         BadRequest::Short => put(out, b"bad short"),

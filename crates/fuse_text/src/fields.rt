@@ -5,6 +5,7 @@ ghost use Rattle.std.specs.List.{flat_map};
 ghost use Rattle.std.specs.Fmt.{decimal, signed_decimal};
 ghost use Rattle.hex.specs.Hex.{encode_lower};
 ghost use Rattle.fuse_text.specs.FieldText.{field, hex_field};
+ghost use Rattle.fuse_text.specs.Fronts.{Begins};
 
 use itoa::Buffer;
 use plain_file::Memory;
@@ -20,10 +21,12 @@ pub(crate) use put_fields;
 
 /// Appends a field with a number: ` name=value`, in decimal.
 ///
-/// After `Memory` nothing is promised of the buffer: it may end in a part of the field.
+/// After `Memory` what stood in the buffer still stands at its front; nothing is promised of what
+/// stands behind it.
 #[tactic(auto, unfolding(crate::specs::FieldText::field))]
 pub fn put_field(out: &mut Vec<u8>, name: &str, value: u64) -> Result<(), Memory>
-    ensures { OnOk result (out.new.items ≡ out.old.items ++ field name.now value) }
+    ensures text { OnOk result (out.new.items ≡ out.old.items ++ field name.now value) }
+    ensures front { Begins out.old.items out.new.items }
 {
     put(out, b" ")?;
     put(out, name.as_bytes())?;
@@ -35,10 +38,12 @@ pub fn put_field(out: &mut Vec<u8>, name: &str, value: u64) -> Result<(), Memory
 /// Appends a field with bytes: ` name=` and two hexadecimal digits a byte, in lower case, and
 /// ` name=` alone where there are no bytes.
 ///
-/// After `Memory` nothing is promised of the buffer: it may end in a part of the field.
+/// After `Memory` what stood in the buffer still stands at its front; nothing is promised of what
+/// stands behind it.
 #[tactic(auto, unfolding(crate::specs::FieldText::hex_field))]
 pub fn put_hex_field(out: &mut Vec<u8>, name: &str, bytes: &[u8]) -> Result<(), Memory>
-    ensures { OnOk result (out.new.items ≡ out.old.items ++ hex_field name.now bytes.now) }
+    ensures text { OnOk result (out.new.items ≡ out.old.items ++ hex_field name.now bytes.now) }
+    ensures front { Begins out.old.items out.new.items }
 {
     put(out, b" ")?;
     put(out, name.as_bytes())?;
@@ -49,7 +54,8 @@ pub fn put_hex_field(out: &mut Vec<u8>, name: &str, bytes: &[u8]) -> Result<(), 
 
 /// Appends fields, each a name and its number.
 pub(crate) fn put_pairs(out: &mut Vec<u8>, pairs: &[(&str, u64)]) -> Result<(), Memory>
-    ensures { OnOk result (out.new.items ≡ out.old.items ++ flat_map (λ p. field p.0.now p.1) pairs.now) }
+    ensures text { OnOk result (out.new.items ≡ out.old.items ++ flat_map (λ p. field p.0.now p.1) pairs.now) }
+    ensures front { Begins out.old.items out.new.items }
 {
     for (name, value) in pairs {
         put_field(out, name, *value)?;
@@ -59,7 +65,8 @@ pub(crate) fn put_pairs(out: &mut Vec<u8>, pairs: &[(&str, u64)]) -> Result<(), 
 
 /// Appends bytes as they are.
 pub(crate) fn put(out: &mut Vec<u8>, bytes: &[u8]) -> Result<(), Memory>
-    ensures { OnOk result (out.new.items ≡ out.old.items ++ bytes.now) }
+    ensures text { OnOk result (out.new.items ≡ out.old.items ++ bytes.now) }
+    ensures front { Begins out.old.items out.new.items }
 {
     out.extend_from_slice(bytes)?;
     Ok(())
@@ -67,14 +74,16 @@ pub(crate) fn put(out: &mut Vec<u8>, bytes: &[u8]) -> Result<(), Memory>
 
 /// Appends a signed number, in decimal.
 pub(crate) fn put_signed(out: &mut Vec<u8>, n: i32) -> Result<(), Memory>
-    ensures { OnOk result (out.new.items ≡ out.old.items ++ signed_decimal n) }
+    ensures text { OnOk result (out.new.items ≡ out.old.items ++ signed_decimal n) }
+    ensures front { Begins out.old.items out.new.items }
 {
     let mut buffer = Buffer::new();
     put(out, buffer.format(n).as_bytes())
 }
 
 fn put_number(out: &mut Vec<u8>, n: u64) -> Result<(), Memory>
-    ensures { OnOk result (out.new.items ≡ out.old.items ++ decimal n) }
+    ensures text { OnOk result (out.new.items ≡ out.old.items ++ decimal n) }
+    ensures front { Begins out.old.items out.new.items }
 {
     let mut buffer = Buffer::new();
     put(out, buffer.format(n).as_bytes())
@@ -82,7 +91,8 @@ fn put_number(out: &mut Vec<u8>, n: u64) -> Result<(), Memory>
 
 // The digits go into the buffer's own new room, however many they are.
 fn put_hex(out: &mut Vec<u8>, bytes: &[u8]) -> Result<(), Memory>
-    ensures { OnOk result (out.new.items ≡ out.old.items ++ encode_lower bytes.now) }
+    ensures text { OnOk result (out.new.items ≡ out.old.items ++ encode_lower bytes.now) }
+    ensures front { Begins out.old.items out.new.items }
 {
     let start = out.len();
     let Some(end) = start.checked_add(2 * bytes.len()) else {

@@ -5,7 +5,8 @@
 //! uses again; the calls named `line_of` make a new one.
 //!
 //! What each line is stands in `specs/`: `FieldText` (one field, and the fields of a layout),
-//! `RecordText` (the names of each record's fields), `Lines` (the three kinds of lines).
+//! `RecordText` (the names of each record's fields), `Lines` (the three kinds of lines). `Fronts` says
+//! what is left of a buffer where an allocation was refused.
 #![tactic(auto)]
 
 mod bad_requests;

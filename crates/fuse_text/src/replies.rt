@@ -1,6 +1,7 @@
 //! The lines of replies.
 
 ghost use Rattle.std.specs.Prelude.{◌≡◌, ◌++◌, OnOk, IfOk};
+ghost use Rattle.fuse_text.specs.Fronts.{Begins};
 ghost use Rattle.fuse_text.specs.Lines.{outcome_text, reply_text, reply_line};
 
 use crate::fields::{put, put_field, put_hex_field, put_signed};
@@ -29,10 +30,11 @@ pub fn line_of_reply(alloc: Global, reply: &Reply, unique: u64) -> Result<Blob, 
 
 /// Appends the line of a reply, as [`line_of_reply`] gives it.
 ///
-/// `Memory` is its only error. Nothing is promised of the buffer then: it may end in a part of the
-/// line.
+/// `Memory` is its only error. What stood in the buffer still stands at its front then; nothing is
+/// promised of what stands behind it.
 pub fn put_reply_line(out: &mut Vec<u8>, reply: &Reply, unique: u64) -> Result<(), Memory>
-    ensures { OnOk result (out.new.items ≡ out.old.items ++ reply_line unique reply.now) }
+    ensures text { OnOk result (out.new.items ≡ out.old.items ++ reply_line unique reply.now) }
+    ensures front { Begins out.old.items out.new.items }
 {
     put_outcome(out, reply)?;
     put_field(out, "unique", unique)?;
@@ -42,7 +44,8 @@ pub fn put_reply_line(out: &mut Vec<u8>, reply: &Reply, unique: u64) -> Result<(
 
 #[tactic(auto, unfolding(crate::specs::Lines::outcome_text))]
 fn put_outcome(out: &mut Vec<u8>, reply: &Reply) -> Result<(), Memory>
-    ensures { OnOk result (out.new.items ≡ out.old.items ++ outcome_text reply.now) }
+    ensures text { OnOk result (out.new.items ≡ out.old.items ++ outcome_text reply.now) }
+    ensures front { Begins out.old.items out.new.items }
 {
     match reply {
         Reply::Error { number } => {
@@ -56,7 +59,8 @@ fn put_outcome(out: &mut Vec<u8>, reply: &Reply) -> Result<(), Memory>
 
 #[tactic(auto, unfolding(crate::specs::Lines::reply_text))]
 fn put_body(out: &mut Vec<u8>, reply: &Reply) -> Result<(), Memory>
-    ensures { OnOk result (out.new.items ≡ out.old.items ++ reply_text reply.now) }
+    ensures text { OnOk result (out.new.items ≡ out.old.items ++ reply_text reply.now) }
+    ensures front { Begins out.old.items out.new.items }
 {
     match reply {
         Reply::Error { .. } | Reply::Done => Ok(()),

@@ -2,6 +2,7 @@
 
 ghost use Rattle.std.specs.Prelude.{◌≡◌, ◌++◌, codes, OnOk, IfOk};
 ghost use Rattle.std.specs.List.{flat_map};
+ghost use Rattle.fuse_text.specs.Fronts.{Begins};
 ghost use Rattle.fuse_text.specs.FieldText.{field};
 ghost use Rattle.fuse_text.specs.RecordText.{forget_one_text, remove_one_text};
 ghost use Rattle.fuse_text.specs.Lines.{body_text, request_line};
@@ -36,10 +37,11 @@ pub fn line_of(alloc: Global, message: &Message) -> Result<Blob, Memory>
 
 /// Appends the line of a request, as [`line_of`] gives it.
 ///
-/// `Memory` is its only error. Nothing is promised of the buffer then: it may end in a part of the
-/// line.
+/// `Memory` is its only error. What stood in the buffer still stands at its front then; nothing is
+/// promised of what stands behind it.
 pub fn put_line(out: &mut Vec<u8>, message: &Message) -> Result<(), Memory>
-    ensures { OnOk result (out.new.items ≡ out.old.items ++ request_line message.now) }
+    ensures text { OnOk result (out.new.items ≡ out.old.items ++ request_line message.now) }
+    ensures front { Begins out.old.items out.new.items }
 {
     put(out, message.body.opcode().text().as_bytes())?;
     put_field(out, "unique", message.head.unique)?;
@@ -50,7 +52,8 @@ pub fn put_line(out: &mut Vec<u8>, message: &Message) -> Result<(), Memory>
 
 #[tactic(auto, unfolding(crate::specs::Lines::body_text))]
 fn put_body(out: &mut Vec<u8>, body: &Request) -> Result<(), Memory>
-    ensures { OnOk result (out.new.items ≡ out.old.items ++ body_text body.now) }
+    ensures text { OnOk result (out.new.items ≡ out.old.items ++ body_text body.now) }
+    ensures front { Begins out.old.items out.new.items }
 {
     match body {
         Request::Lookup { name } | Request::Unlink { name } => {
@@ -92,13 +95,15 @@ fn put_body(out: &mut Vec<u8>, body: &Request) -> Result<(), Memory>
 }
 
 fn put_count(out: &mut Vec<u8>, count: usize) -> Result<(), Memory>
-    ensures { OnOk result (out.new.items ≡ out.old.items ++ field (codes "count") count) }
+    ensures text { OnOk result (out.new.items ≡ out.old.items ++ field (codes "count") count) }
+    ensures front { Begins out.old.items out.new.items }
 {
     put_field(out, "count", count as u64)
 }
 
 fn put_forgets(out: &mut Vec<u8>, ones: &[ForgetOne]) -> Result<(), Memory>
-    ensures { OnOk result (out.new.items ≡ out.old.items ++ flat_map forget_one_text ones.now) }
+    ensures text { OnOk result (out.new.items ≡ out.old.items ++ flat_map forget_one_text ones.now) }
+    ensures front { Begins out.old.items out.new.items }
 {
     for one in ones {
         put_forget_one(out, one)?;
@@ -107,7 +112,8 @@ fn put_forgets(out: &mut Vec<u8>, ones: &[ForgetOne]) -> Result<(), Memory>
 }
 
 fn put_removes(out: &mut Vec<u8>, ones: &[RemoveOne]) -> Result<(), Memory>
-    ensures { OnOk result (out.new.items ≡ out.old.items ++ flat_map remove_one_text ones.now) }
+    ensures text { OnOk result (out.new.items ≡ out.old.items ++ flat_map remove_one_text ones.now) }
+    ensures front { Begins out.old.items out.new.items }
 {
     for one in ones {
         put_remove_one(out, one)?;

@@ -1,5 +1,5 @@
 -- A chain is followed a descriptor at a time.
-use Rattle.std.proofs.Common.{◌≡◌, ◌∙◌, ap, sym, refl, ℕ, suc, ◌+◌, ◌-◌, ◌<◌, ◌≤◌, ◌==◌, Bool, true, false, ◌||◌, not, cond, nat_le, List, [], ◌∷◌, ◌++◌, length, map, Option, Some, None, Result, Err, arith, append_assoc, add-one}
+use Rattle.std.proofs.Common.{◌≡◌, ◌≢◌, ◌∙◌, ap, sym, refl, ℕ, suc, ◌+◌, ◌-◌, ◌<◌, ◌≤◌, ◌==◌, Bool, true, false, ◌||◌, not, cond, nat_le, List, [], ◌∷◌, ◌++◌, length, map, Option, Some, None, Result, Ok, Err, arith, append_assoc, add-one}
 use Rattle.std.specs.Prelude.{filter}
 use Rattle.std.specs.List.{list_any}
 use Rattle.std.proofs.lemmas.Grind.{common_steps}
@@ -139,3 +139,12 @@ follow_end mem l head index p chain count d empty h e ends head_is chain_is =
 pub follow_first : (mem : List ℕ) (l : Layout) (head : ℕ) → Follows mem l head head (record { readable = []; writable = [] }) 0
 unfolding readable_of writable_of
 follow_first mem l head = record { before = []; left = l.size; count_is = refl; left_is = omega arith; readable = refl; writable = refl; same = rw add-one refl }
+
+unless_some : (f : Option RingFault) (c : Chain) → unless f (Some c) ≢ Ok None
+unless_some (Some f) c e = cc
+unless_some None c e = cc
+
+-- where a head stands there is a chain or a fault
+pub chain_of_some : (mem : List ℕ) (l : Layout) (head : ℕ) (before rest : List ℕ) → chain_of mem l head before rest ≢ Ok None
+unfolding chain_of
+chain_of_some mem l head before rest = unless_some _ _

@@ -1,4 +1,4 @@
-ghost use Rattle.std.specs.Prelude.{◌≡◌, ◌+◌, ◌*◌, ◌%◌, ◌^◌, ◌<◌, ◌≤◌, length, true, Ok, Some, None, IfOk, IfSome};
+ghost use Rattle.std.specs.Prelude.{◌≡◌, ◌+◌, ◌*◌, ◌%◌, ◌^◌, ◌<◌, ◌≤◌, ◌==◌, length, true, Ok, Some, None, IfOk, IfSome};
 ghost use Rattle.vring.specs.Bytes.{u16_at, max_memory};
 ghost use Rattle.vring.specs.Layout.{IsLayout};
 ghost use Rattle.vring.specs.Chain.{chain_at, ChainLiesIn};
@@ -20,8 +20,8 @@ use std::marker::Model;
 /// says how many chains it popped, and the *used* index, which says how many it pushed. It never
 /// reads the used index from the memory, so nothing that a driver or a chain writes there moves it.
 ///
-/// Every call wants a memory as long as the one that the ring was made with. What stands in it may
-/// be anything.
+/// Every call wants a memory as long as the one that the ring was made with, which [`Ring::fits`]
+/// tells. What stands in it may be anything.
 #[derive(Debug, Drop)]
 pub struct Ring {
     layout: Layout,
@@ -41,7 +41,7 @@ impl Model for Ring {
 }
 
 // Makes `chain` the one that is to come, and says whether there is one.
-#[tactic(auto, unfolding(crate::specs::Chain::chain_at))]
+#[tactic(auto, unfolding(crate::specs::Chain::chain_at), using(crate::proofs::Steps::chain_of_some))]
 fn next_chain(mem: &[u8], layout: &Layout, seen: u16, chain: &mut Chain) -> Result<bool, PopError>
     requires layout { IsLayout layout.now }
     requires memory { length mem.now ≡ layout.now.memory }
@@ -120,13 +120,22 @@ impl Ring {
         self.used_index
     }
 
+    /// Whether a memory is as long as the one that the ring was made with. The memory isn't looked
+    /// into.
+    pub fn fits(&self, mem: &GuestMem) -> bool
+        ensures { result ≡ (length mem.now == self.now.layout.memory) }
+    {
+        mem.len() == self.layout.memory
+    }
+
     /// Takes the next chain that the driver made available. None comes exactly where the available
     /// index is the seen one. A chain raises the seen index by 1, modulo 2^16; its pieces lie in the
     /// memory, and neither part has more than [`MAX_PART`](crate::MAX_PART) bytes.
     ///
     /// A fault is the first one of what stands in the memory, in the order that [`RingFault`] gives.
     /// `Memory` comes where an allocation was refused, which happens only for a part of more than
-    /// eight pieces. After either the ring is as it was, so that the same call answers the same.
+    /// eight pieces, so never where the available index is the seen one. After either the ring is as
+    /// it was, so that the same call answers the same.
     pub fn pop(&mut self, alloc: Global, mem: &GuestMem) -> Result<Option<Chain>, PopError>
         requires { length mem.now ≡ self.old.layout.memory }
         ensures pops { Pops self.old mem.now result self.new }

@@ -71,7 +71,10 @@ fn takes_the_powers_of_two_for_sizes(rt: HostRuntime) -> Result<(), Fail> {
             "size {size}"
         );
         match ring {
-            Some(ring) => assert_eq!(rt; (ring.seen(), ring.used_index()), (65_535, 65_535)),
+            Some(ring) => {
+                assert_eq!(rt; (ring.seen(), ring.used_index()), (65_535, 65_535));
+                assert_eq!(rt; (ring.fits(&mem), ring.fits(&short)), (true, false));
+            }
             None => panic!(rt; "size {size}"),
         }
     }
