@@ -1,5 +1,5 @@
 ghost use Rattle.std.specs.Prelude.{◌≡◌, ◌≤◌, length, IfOk, OnOk, OnErr};
-ghost use Rattle.vring.specs.Chain.{max_part};
+ghost use Rattle.plain_file.specs.Limits.{max_part};
 ghost use Rattle.fuse_device.specs.Steps.{device_step};
 ghost use Rattle.fuse_device.specs.Promises.{CanStep, world};
 ghost use Rattle.guest_wire.specs.Wires.{sending, IsStepOrNot};

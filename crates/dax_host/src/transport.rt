@@ -1,5 +1,6 @@
 ghost use Rattle.std.specs.Prelude.{◌≡◌, ◌≤◌, ℕ, length, Some, None, IfOk, OnOk, OnErr};
-ghost use Rattle.vring.specs.Chain.{max_part, ChainLiesIn};
+ghost use Rattle.plain_file.specs.Limits.{max_part};
+ghost use Rattle.vring.specs.Chain.{ChainLiesIn};
 ghost use Rattle.vring.specs.Driver.{IsQueueSize, driver_layout, offered_room};
 ghost use Rattle.vring.specs.Pieces.{scattered};
 ghost use Rattle.vring.specs.Ring.{next_index, used_pushed};

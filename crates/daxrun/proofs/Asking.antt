@@ -1,8 +1,9 @@
 -- What the requests of a run make of a live wire, each of which succeeds.
-use Rattle.std.proofs.Common.{◌≡◌, ◌∙◌, ap, refl, subst, arith, ℕ, ◌+◌, ◌-◌, ◌≤◌, ◌^◌, true, false, List, length, take, drop, Option, Some, None, Result, Ok, Err, if◌then◌else◌}
+use Rattle.std.proofs.Common.{◌≡◌, ◌∙◌, ap, refl, subst, arith, ℕ, ◌+◌, ◌-◌, ◌≤◌, ◌^◌, true, false, List, length, take, drop, Option, Some, None, is_some, slice_set, Result, Ok, Err, if◌then◌else◌}
 use Rattle.plain_file.specs.declared.operations.Op.TheVariants as ops
 use Rattle.plain_file.specs.File.{max_file}
-use Rattle.plain_file.specs.Board.{file_at, bytes_now, size_of, applied}
+use Rattle.plain_file.specs.Limits.{max_transfer}
+use Rattle.plain_file.specs.Board.{file_at, bytes_now, size_of, with_note, applied}
 use Rattle.fuse_codec.specs.Replies.{form_of}
 use Rattle.fuse_codec.specs.declared.messages.Request.TheVariants as asks
 use Rattle.fuse_codec.specs.declared.replies.Reply.{Reply}
@@ -14,10 +15,13 @@ use Rattle.fuse_wire.specs.declared.opens.OpenOut.{OpenOut}
 use Rattle.fuse_wire.specs.declared.records.WriteOut.{WriteOut}
 use Rattle.fuse_device.specs.State.{World, is_made, named, begun, looked_up, with_open}
 use Rattle.fuse_device.specs.Checks.{is_known, may_open}
+use Rattle.fuse_device.specs.Requests.{seen_size}
 use Rattle.fuse_device.specs.Entries.{session_flags, init_out_with, entry_of, open_out_of}
 use Rattle.fuse_device.specs.OpenFiles.{HasOpenFile}
 use Rattle.fuse_device.proofs.OpenHandles.{is_file, init_succeeds, lookup_succeeds, open_succeeds, read_succeeds, write_succeeds}
 use Rattle.guest_wire.specs.declared.driver.FileRef.{FileRef}
+use Rattle.guest_wire.specs.Keeps.{KeepsBoards}
+use Rattle.guest_wire.specs.declared.wires.WireError.{WireError}
 use Rattle.guest_wire.specs.declared.wires.WireRefusal.{WireRefusal}
 use Rattle.guest_wire.specs.declared.wires.WireRefusal.TheVariants as refusals
 use Rattle.guest_wire.specs.Wires.{WireView, Boards, Sent, world_at, KeepsWire}
@@ -55,11 +59,13 @@ done {V} says reply wanted result new v h e =
     record { said = k.0; left = k.1 }
 
 -- the wire stays live
-pub live_again : {S V : Type 0} (wire : S → WireView) (gives : S → Boards → Sent → List ℕ → S → Boards → Type 0) (says : V → Reply → Type 0) (before : S) (old : Boards) (m : Message) (result : Result V WireRefusal) (after : S) (new : Boards)
-    → Answers wire gives says before old m result after new → KeepsWire (wire before) (wire after) → IsLive (wire before) old → IsLive (wire after) new
-live_again wire gives says before old m result after new answer keeps live = record {
+pub live_again : {S V : Type 0} (wire : S → WireView) (gives : S → Boards → Sent → Result (List ℕ) WireError → S → Boards → Type 0) (says : V → Reply → Type 0) (before : S) (old : Boards) (m : Message) (result : Result V WireRefusal) (after : S) (new : Boards)
+    → Answers wire gives says before old m result after new → KeepsWire (wire before) (wire after) → KeepsBoards old new → IsLive (wire before) old → IsLive (wire after) new
+live_again wire gives says before old m result after new answer keeps boards live = record {
   honest = keeps.honest ∙ live.honest;
-  servable = IsServable-answer wire gives says before old m result after new answer live.honest live.servable;
+  whole = keeps.stays ∙ live.whole;
+  alone = boards.files.over ∙ live.alone;
+  servable = IsServable-answer wire gives says before old m result after new answer live.honest live.whole live.servable;
 }
 
 -- ---- each of them
@@ -75,34 +81,42 @@ told_by w = init_out_with (session_flags w.state.pages asked) asked
 abbrev pub SaysInit : InitOut → Reply → Type 0
 SaysInit out reply = reply ≡ replies.Init out
 
-pub begins : {S : Type 0} (wire : S → WireView) (gives : S → Boards → Sent → List ℕ → S → Boards → Type 0) (before : S) (old : Boards) (unique : ℕ) (result : Result InitOut WireRefusal) (after : S) (new : Boards)
+pub begins : {S : Type 0} (wire : S → WireView) (gives : S → Boards → Sent → Result (List ℕ) WireError → S → Boards → Type 0) (before : S) (old : Boards) (unique : ℕ) (result : Result InitOut WireRefusal) (after : S) (new : Boards)
     → Answers wire gives SaysInit before old (message unique 0 (init_request false)) result after new → IsLive (wire before) old
     → Finishes SaysInit (replies.Init (told_by (world_at (wire before) old))) (record (world_at (wire before) old) { state = begun (wire before).state }) result (world_at (wire after) new)
 unfolding form_of
 begins wire gives before old unique result after new answer live =
     let w = world_at (wire before) old in
-    record { by = succeeded wire gives SaysInit before old (message unique 0 (init_request false)) (replies.Init (told_by w)) (record w { state = begun w.state }) result after new answer live.honest refl (init_succeeds w 0 asked refl (omega arith) (omega arith)) }
+    record { by = succeeded wire gives SaysInit before old (message unique 0 (init_request false)) (replies.Init (told_by w)) (record w { state = begun w.state }) result after new answer live.honest live.whole refl (init_succeeds w 0 asked refl (omega arith) (omega arith)) }
 
 abbrev pub SaysEntry : EntryOut → Reply → Type 0
 SaysEntry out reply = reply ≡ replies.Entry out
 
-pub finds : {S : Type 0} (wire : S → WireView) (gives : S → Boards → Sent → List ℕ → S → Boards → Type 0) (before : S) (old : Boards) (unique : ℕ) (name : List ℕ) (i : ℕ) (result : Result EntryOut WireRefusal) (after : S) (new : Boards)
+-- on a board over no table nobody sees that a size was looked at
+seen_size_alone : (w : World) (i : ℕ) → w.files.over ≡ None → seen_size w i ≡ w
+seen_size_alone w i alone =
+    let f = with_note (size_of (file_at w.files i)) (file_at w.files i) in
+    ap (λ (o : Option (List ℕ)). record w { files = record w.files { files = if is_some o then slice_set w.files.files i f else w.files.files } }) alone
+
+pub finds : {S : Type 0} (wire : S → WireView) (gives : S → Boards → Sent → Result (List ℕ) WireError → S → Boards → Type 0) (before : S) (old : Boards) (unique : ℕ) (name : List ℕ) (i : ℕ) (result : Result EntryOut WireRefusal) (after : S) (new : Boards)
     → Answers wire gives SaysEntry before old (message unique 1 (asks.Lookup name)) result after new → IsLive (wire before) old
     → (wire before).state.started ≡ true → named (wire before).state name ≡ Some i → size_of (file_at old.files i) ≤ max_file
     → Finishes SaysEntry (replies.Entry (entry_of (wire before).state old.files i)) (record (world_at (wire before) old) { state = looked_up (wire before).state i }) result (world_at (wire after) new)
 unfolding form_of
 finds wire gives before old unique name i result after new answer live started found small =
     let w = world_at (wire before) old in
-    record { by = succeeded wire gives SaysEntry before old (message unique 1 (asks.Lookup name)) (replies.Entry (entry_of w.state w.files i)) (record w { state = looked_up w.state i }) result after new answer live.honest refl (lookup_succeeds w name i started found live.servable.few small) }
+    let wanted : World → World = λ v. record v { state = looked_up w.state i } in
+    let by = succeeded wire gives SaysEntry before old (message unique 1 (asks.Lookup name)) (replies.Entry (entry_of w.state w.files i)) (wanted (seen_size w i)) result after new answer live.honest live.whole refl (lookup_succeeds w name i started found live.servable.few small) in
+    record { by = subst (λ v. Succeeded SaysEntry (replies.Entry (entry_of w.state w.files i)) (wanted v) result (world_at (wire after) new)) (seen_size_alone w i live.alone) by }
 
-pub opens : {S : Type 0} (wire : S → WireView) (gives : S → Boards → Sent → List ℕ → S → Boards → Type 0) (before : S) (old : Boards) (unique node : ℕ) (result : Result ℕ WireRefusal) (after : S) (new : Boards)
+pub opens : {S : Type 0} (wire : S → WireView) (gives : S → Boards → Sent → Result (List ℕ) WireError → S → Boards → Type 0) (before : S) (old : Boards) (unique node : ℕ) (result : Result ℕ WireRefusal) (after : S) (new : Boards)
     → Answers wire gives SaysOpened before old (message unique node open_request) result after new → IsLive (wire before) old
     → (wire before).state.started ≡ true → is_known (wire before).state node ≡ true → is_made (wire before).state node ≡ true → may_open (wire before).state ≡ true
     → Finishes SaysOpened (replies.Opened (open_out_of (wire before).state)) (record (world_at (wire before) old) { state = with_open (wire before).state node }) result (world_at (wire after) new)
 unfolding form_of
 opens wire gives before old unique node result after new answer live started known made may =
     let w = world_at (wire before) old in
-    record { by = succeeded wire gives SaysOpened before old (message unique node open_request) (replies.Opened (open_out_of w.state)) (record w { state = with_open w.state node }) result after new answer live.honest refl (open_succeeds w node (record { flags = 2; open_flags = 0 }) started known (is_file w.state node made) may) }
+    record { by = succeeded wire gives SaysOpened before old (message unique node open_request) (replies.Opened (open_out_of w.state)) (record w { state = with_open w.state node }) result after new answer live.honest live.whole refl (open_succeeds w node (record { flags = 2; open_flags = 0 }) started known (is_file w.state node made) may) }
 
 -- the bytes that a read gives
 abbrev pub part_of : Boards → ℕ → ℕ → ℕ → List ℕ
@@ -111,23 +125,23 @@ part_of b node off len = take len (drop off (bytes_now (file_at b.files (node - 
 abbrev pub SaysBytes : List ℕ → Reply → Type 0
 SaysBytes bytes reply = reply ≡ replies.Bytes bytes
 
-pub reads : {S : Type 0} (wire : S → WireView) (gives : S → Boards → Sent → List ℕ → S → Boards → Type 0) (before : S) (old : Boards) (unique : ℕ) (at : FileRef) (off len : ℕ) (result : Result (List ℕ) WireRefusal) (after : S) (new : Boards)
+pub reads : {S : Type 0} (wire : S → WireView) (gives : S → Boards → Sent → Result (List ℕ) WireError → S → Boards → Type 0) (before : S) (old : Boards) (unique : ℕ) (at : FileRef) (off len : ℕ) (result : Result (List ℕ) WireRefusal) (after : S) (new : Boards)
     → Answers wire gives SaysBytes before old (message unique at.node (read_request at off len)) result after new → IsLive (wire before) old
-    → HasOpenFile (wire before).state at.node at.fh → len ≤ 1048576
+    → HasOpenFile (wire before).state at.node at.fh → len ≤ max_transfer
     → Finishes SaysBytes (replies.Bytes (part_of old at.node off len)) (record (world_at (wire before) old) { files = applied old.files (at.node - 2) (ops.Read off len) }) result (world_at (wire after) new)
 unfolding form_of
 reads wire gives before old unique at off len result after new answer live h small =
     let w = world_at (wire before) old in
-    record { by = succeeded wire gives SaysBytes before old (message unique at.node (read_request at off len)) (replies.Bytes (part_of old at.node off len)) (record w { files = applied w.files (at.node - 2) (ops.Read off len) }) result after new answer live.honest refl (read_succeeds w at.node (record { fh = at.fh; offset = off; size = len; read_flags = 0; lock_owner = 0; flags = 0 }) h small) }
+    record { by = succeeded wire gives SaysBytes before old (message unique at.node (read_request at off len)) (replies.Bytes (part_of old at.node off len)) (record w { files = applied w.files (at.node - 2) (ops.Read off len) }) result after new answer live.honest live.whole refl (read_succeeds w at.node (record { fh = at.fh; offset = off; size = len; read_flags = 0; lock_owner = 0; flags = 0 }) h small) }
 
-pub writes : {S : Type 0} (wire : S → WireView) (gives : S → Boards → Sent → List ℕ → S → Boards → Type 0) (before : S) (old : Boards) (unique : ℕ) (at : FileRef) (off : ℕ) (bytes : List ℕ) (result : Result ℕ WireRefusal) (after : S) (new : Boards)
+pub writes : {S : Type 0} (wire : S → WireView) (gives : S → Boards → Sent → Result (List ℕ) WireError → S → Boards → Type 0) (before : S) (old : Boards) (unique : ℕ) (at : FileRef) (off : ℕ) (bytes : List ℕ) (result : Result ℕ WireRefusal) (after : S) (new : Boards)
     → Answers wire gives SaysWrote before old (message unique at.node (write_request at off bytes)) result after new → IsLive (wire before) old
-    → HasOpenFile (wire before).state at.node at.fh → length bytes ≤ 1048576 → off + length bytes ≤ max_file
+    → HasOpenFile (wire before).state at.node at.fh → length bytes ≤ max_transfer → off + length bytes ≤ max_file
     → Finishes SaysWrote (replies.Wrote (record { size = length bytes })) (record (world_at (wire before) old) { files = applied old.files (at.node - 2) (ops.Write off bytes) }) result (world_at (wire after) new)
 unfolding form_of
 writes wire gives before old unique at off bytes result after new answer live h small within =
     let w = world_at (wire before) old in
-    record { by = succeeded wire gives SaysWrote before old (message unique at.node (write_request at off bytes)) (replies.Wrote (record { size = length bytes })) (record w { files = applied w.files (at.node - 2) (ops.Write off bytes) }) result after new answer live.honest refl (write_succeeds w at.node (write_at at.fh off (length bytes)) bytes h small within) }
+    record { by = succeeded wire gives SaysWrote before old (message unique at.node (write_request at off bytes)) (replies.Wrote (record { size = length bytes })) (record w { files = applied w.files (at.node - 2) (ops.Write off bytes) }) result after new answer live.honest live.whole refl (write_succeeds w at.node (write_at at.fh off (length bytes)) bytes h small within) }
 
 -- ---- what a reply says
 

@@ -1,13 +1,15 @@
 -- What the requests of a run rest on.
-use Rattle.std.specs.Prelude.{◌≡◌, true, Result, Ok, Err}
+use Rattle.std.specs.Prelude.{◌≡◌, true, false, None, Result, Ok, Err}
 use Rattle.fuse_device.specs.Promises.{IsServable}
 use Rattle.guest_wire.specs.declared.wires.WireRefusal.{WireRefusal}
 use Rattle.guest_wire.specs.declared.wires.WireRefusal.TheVariants as refusals
 use Rattle.guest_wire.specs.Wires.{WireView, Boards, world_at}
 
--- a wire that hands each request to a daemon, over boards on which any request can be served
+-- a wire that hands each request to the whole daemon, over boards of the caller's own on which any request can be served
 pub record IsLive (w : WireView) (b : Boards) : Type 0 where
   pub honest : w.honest ≡ true
+  pub whole : w.stays ≡ false
+  pub alone : b.files.over ≡ None
   pub servable : IsServable (world_at w b)
 
 -- a value, or want of memory

@@ -4,6 +4,7 @@ use Rattle.std.specs.List.{AllByRecursion, list_all}
 use Rattle.plain_file.specs.declared.operations.Op.{Op}
 use Rattle.plain_file.specs.declared.operations.Op.TheVariants as ops
 use Rattle.plain_file.specs.File.{max_file}
+use Rattle.plain_file.specs.Limits.{max_transfer}
 use Rattle.daxrun.specs.declared.scripts.Call.{Call}
 use Rattle.daxrun.specs.declared.scripts.Call.TheVariants as calls
 use Rattle.daxrun.specs.declared.scripts.Script.{Script}
@@ -11,7 +12,7 @@ use Rattle.daxrun.specs.Options.{◌>>=◌}
 
 -- the most bytes that one call moves
 abbrev pub max_call : ℕ
-max_call = 1048576
+max_call = max_transfer
 
 -- the most calls of a script, and the most bytes that they move together
 abbrev pub max_calls : ℕ

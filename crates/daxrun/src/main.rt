@@ -33,6 +33,7 @@ fn main(rt: HostRuntime) -> ExitCode {
     let alloc = rt.alloc();
     let status = match command_words(alloc, env::args(&rt)) {
         Ok(words) => runs::run(
+            &rt,
             alloc,
             words.as_slice(),
             &mut StdSource::new(rt.stdin()),

@@ -7,12 +7,12 @@ ghost use Rattle.daxrun.specs.ScriptText.{file_of_words, read_of, write_of, verb
 
 use crate::scripts::{Call, FileLine, Script};
 use crate::words::{cut, hex_bytes, number_up_to};
-use plain_file::{Blob, First, List, MAX_FILE, Memory, Name};
+use plain_file::{Blob, First, List, MAX_FILE, MAX_TRANSFER, Memory, Name};
 use std::alloc::Global;
 use std::marker::Model;
 
 // The most bytes that one call moves.
-const MAX_CALL: u64 = 1_048_576;
+const MAX_CALL: u64 = MAX_TRANSFER as u64;
 
 // The most calls of a script, and the most bytes that they move together.
 const MAX_CALLS: usize = 65_536;

@@ -1,67 +1,46 @@
-ghost use Rattle.std.specs.Prelude.{◌≡◌, ◌≤◌, [], ◌∷◌, length, true};
-ghost use Rattle.std.specs.List.{AllByRecursion};
-ghost use Rattle.plain_file.specs.File.{max_file};
-ghost use Rattle.plain_file.specs.Board.{file_at, size_of};
+ghost use Rattle.std.specs.Prelude.{◌≡◌, [], ◌∷◌, slice_get, Some, true, false};
 ghost use Rattle.fuse_device.specs.State.{new_state};
-ghost use Rattle.guest_wire.specs.Wires.{boards};
-ghost use Rattle.daxrun.specs.Play.{IsPlayed};
-ghost use Rattle.daxrun.specs.Requests.{IsLive};
-ghost use Rattle.daxrun.specs.Script.{IsCall, IsFirstForm, is_script_name, max_calls};
+ghost use Rattle.daxrun.specs.declared.scripts.FileLine.{FileLine};
+ghost use Rattle.daxrun.specs.Script.{IsFirstForm};
 
 use crate::parsing::parse;
-use crate::plays::{board, daemon, play_guests};
+use crate::plays::{daemon_of, play};
 use crate::run_tests::HELLO;
-use crate::scripts::{Call, FileLine, Script};
+use crate::scripts::Script;
 use dax_host::SoloWire;
 use fuse_wire::InHeader;
 use guest_wire::{Driver, KeepWire, Wire};
 use page_map::PageMap;
-use plain_file::{Blob, List, Memory, Name, PlainFiles};
+use plain_file::{Blob, List, Memory, PlainFiles};
 use std::alloc::Global;
+use std::sync::Wait;
 use std::test::Fail;
 
-// The requests that a run of a script sends.
-fn sent(alloc: Global, script: &Script) -> Result<List<Blob>, Memory>
+// The requests that playing a script sends.
+fn sent<R: Wait>(rt: &R, alloc: Global, script: &Script) -> Result<List<Blob>, Memory>
     requires { IsFirstForm script.now }
 {
-    sent_on(alloc, &script.files.as_slice()[0], script.guests.as_slice())
-}
-
-fn sent_on(alloc: Global, file: &FileLine, guests: &[List<Call>]) -> Result<List<Blob>, Memory>
-    requires name { is_script_name file.now.name ≡ true }
-    requires size { file.now.first.size ≤ max_file }
-    requires few { AllByRecursion (λ cs. length cs ≤ max_calls) guests.now }
-    requires calls { AllByRecursion (λ cs. AllByRecursion (IsCall 1) cs) guests.now }
-{
-    let mut daemon = daemon(alloc, &file.name)?;
-    let mut files = board(alloc, file.first)?;
-    let mut map = PageMap::new(alloc, 0)?;
+    let mut daemon = daemon_of(alloc, script)?;
     let solo = SoloWire::new(alloc, &mut daemon)?;
     let client = Driver::new(KeepWire::new(alloc, solo));
-    let name = &file.name;
-    send(alloc, client, name, guests, &mut files, &mut map)
+    sent_by(rt, alloc, script, client)
 }
 
 // Plays over a wire that keeps the requests, and tells them.
-fn send<W>(
+fn sent_by<R: Wait, W>(
+    rt: &R,
     alloc: Global,
+    script: &Script,
     mut client: Driver<KeepWire<W>>,
-    name: &Name,
-    guests: &[List<Call>],
-    files: &mut PlainFiles,
-    map: &mut PageMap,
 ) -> Result<List<Blob>, Memory>
 where
     W: Wire<PlainFiles, PageMap> + Drop,
-    requires live { IsLive (W.wire client.wire.inner) (boards files.old map.old) }
-    requires new { (W.wire client.wire.inner).state ≡ new_state 0 (name.now ∷ []) }
-    requires small { size_of (file_at files.old 0) ≤ max_file }
-    requires at { IsPlayed 0 files.old }
-    requires fresh { (file_at files.old 0).history ≡ [] }
-    requires few { AllByRecursion (λ cs. length cs ≤ max_calls) guests.now }
-    requires calls { AllByRecursion (λ cs. AllByRecursion (IsCall 1) cs) guests.now }
+    requires form { IsFirstForm script.now }
+    requires honest { (W.wire client.wire.inner).honest ≡ true }
+    requires whole { (W.wire client.wire.inner).stays ≡ false }
+    requires new { (f : FileLine) → slice_get script.now.files 0 ≡ Some f → (W.wire client.wire.inner).state ≡ new_state 0 (f.name ∷ []) }
 {
-    play_guests(alloc, &mut client, name, guests, files, map)?;
+    play(rt, alloc, script, &mut client)?;
     copies(alloc, client.wire.requests().as_slice())
 }
 
@@ -80,7 +59,7 @@ fn sends_one_request_a_call(rt: HostRuntime) -> Result<(), Fail> {
     let Some(script) = parse(alloc, HELLO.as_bytes())? else {
         panic!(&rt; "no script")
     };
-    let requests = sent(alloc, &script)?;
+    let requests = sent(&rt, alloc, &script)?;
     let mut headers = vec![in alloc]?;
     for request in requests.as_slice() {
         let Some(header) = request

@@ -1,10 +1,11 @@
-ghost use Rattle.std.specs.Prelude.{◌≡◌, ◌<◌, ◌≤◌, ◌+◌, [], ◌∷◌, ◌++◌, length, true, IfOk, OnOk};
+ghost use Rattle.std.specs.Prelude.{◌≡◌, ◌<◌, ◌≤◌, ◌+◌, [], ◌∷◌, ◌++◌, length, slice_get, Some, true, false, IfOk, OnOk};
 ghost use Rattle.std.specs.List.{AllByRecursion};
 ghost use Rattle.plain_file.specs.File.{max_file, after, answer};
 ghost use Rattle.plain_file.specs.Board.{file_at, bytes_now, size_of, applied};
 ghost use Rattle.plain_file.specs.Plain.{new_board};
 ghost use Rattle.fuse_device.specs.State.{new_state};
 ghost use Rattle.guest_wire.specs.Wires.{boards};
+ghost use Rattle.daxrun.specs.declared.scripts.FileLine.{FileLine};
 ghost use Rattle.daxrun.specs.Requests.{IsLive};
 ghost use Rattle.daxrun.specs.Script.{IsCall, IsFirstForm, max_calls, op_of};
 ghost use Rattle.daxrun.specs.Play.{IsPlayed, IsOpened, firsts_of, the_entry, the_line, entries_from, lines_from, entry_lines, entries_of, guests_of, transcript_for};
@@ -16,38 +17,59 @@ use crate::requests::{begin, look_up, open_file, read, write};
 use crate::scripts::{Call, FileLine, Script};
 use crate::transcripts::{EntryLine, FilePart, GuestPart, Line, Numbered, Transcript};
 use daemon_core::Daemon;
-use dax_host::SoloWire;
 use guest_wire::{Driver, FileRef, Wire};
 use page_map::PageMap;
 use plain_file::{Answer, Entry, FileBoard, First, List, Memory, Name, PlainFiles, Way};
 use std::alloc::Global;
+use std::sync::Wait;
 
-/// Runs a script of one guest on one file, or of none, and tells what it did. The guest begins a
-/// session, opens the file, and makes its calls, all as requests that go through a virtqueue to the
-/// daemon, in their order. Nothing is sent after the last call.
-pub fn play(alloc: Global, script: &Script) -> Result<Transcript, Memory>
-    requires { IsFirstForm script.now }
+/// Plays a script of one guest on one file, or of none, by a client over a wire to the whole daemon of
+/// the script's file, on which nothing was done, and tells what it did. The guest begins a session, opens
+/// the file, and makes its calls, all as requests of the client, in their order. Nothing is sent after
+/// the last call.
+pub fn play<R: Wait, W>(
+    rt: &R,
+    alloc: Global,
+    script: &Script,
+    client: &mut Driver<W>,
+) -> Result<Transcript, Memory>
+where
+    W: Wire<PlainFiles, PageMap>,
+    requires form { IsFirstForm script.now }
+    requires honest { (W.wire client.old.wire).honest ≡ true }
+    requires whole { (W.wire client.old.wire).stays ≡ false }
+    requires new { (f : FileLine) → slice_get script.now.files 0 ≡ Some f → (W.wire client.old.wire).state ≡ new_state 0 (f.name ∷ []) }
     ensures legal { IfOk result (IsLegal script.now) }
     ensures printable { IfOk result IsPrintable }
 {
-    let t = play_file(alloc, &script.files.as_slice()[0], script.guests.as_slice())?;
+    let file = &script.files.as_slice()[0];
+    let t = play_file(rt, alloc, file, script.guests.as_slice(), client)?;
     Ok(t)
 }
 
-fn play_file(alloc: Global, file: &FileLine, guests: &[List<Call>]) -> Result<Transcript, Memory>
+fn play_file<R: Wait, W>(
+    rt: &R,
+    alloc: Global,
+    file: &FileLine,
+    guests: &[List<Call>],
+    client: &mut Driver<W>,
+) -> Result<Transcript, Memory>
+where
+    W: Wire<PlainFiles, PageMap>,
     requires name { is_script_name file.now.name ≡ true }
     requires size { file.now.first.size ≤ max_file }
     requires few { AllByRecursion (λ cs. length cs ≤ max_calls) guests.now }
     requires calls { AllByRecursion (λ cs. AllByRecursion (IsCall 1) cs) guests.now }
+    requires honest { (W.wire client.old.wire).honest ≡ true }
+    requires whole { (W.wire client.old.wire).stays ≡ false }
+    requires new { (W.wire client.old.wire).state ≡ new_state 0 (file.now.name ∷ []) }
     ensures value { IfOk result (λ t. t ≡ transcript_for file.now guests.now) }
     ensures printable { IfOk result IsPrintable }
 {
-    let mut daemon = daemon(alloc, &file.name)?;
     let mut files = board(alloc, file.first)?;
     let mut map = PageMap::new(alloc, 0)?;
-    let mut client = Driver::new(SoloWire::new(alloc, &mut daemon)?);
     let name = &file.name;
-    let parts = play_guests(alloc, &mut client, name, guests, &mut files, &mut map)?;
+    let parts = play_guests(rt, alloc, client, name, guests, &mut files, &mut map)?;
     let entries = entry_lines(alloc, files.history(0).as_slice())?;
     let mut told = List::new(alloc);
     told.push(FilePart {
@@ -65,7 +87,7 @@ fn play_file(alloc: Global, file: &FileLine, guests: &[List<Call>]) -> Result<Tr
 
 // The daemon of a file of this name, without a window.
 #[tactic(auto, using(fuse_device::proofs::Servable::one_distinct))]
-pub(crate) fn daemon(alloc: Global, name: &Name) -> Result<Daemon, Memory>
+fn daemon(alloc: Global, name: &Name) -> Result<Daemon, Memory>
     ensures { IfOk result (λ d. d ≡ new_state 0 (name.now ∷ [])) }
 {
     let mut names = List::new(alloc);
@@ -73,8 +95,16 @@ pub(crate) fn daemon(alloc: Global, name: &Name) -> Result<Daemon, Memory>
     Daemon::new(alloc, 0, &names)
 }
 
+/// The daemon of a script's file, without a window, on which nothing was done.
+pub fn daemon_of(alloc: Global, script: &Script) -> Result<Daemon, Memory>
+    requires { IsFirstForm script.now }
+    ensures { IfOk result (λ d. (f : FileLine) → slice_get script.now.files 0 ≡ Some f → d ≡ new_state 0 (f.name ∷ [])) }
+{
+    daemon(alloc, &script.files.as_slice()[0].name)
+}
+
 // Files, as many as a daemon can have, of which the first has these contents and the others are empty.
-pub(crate) fn board(alloc: Global, first: First) -> Result<PlainFiles, Memory>
+fn board(alloc: Global, first: First) -> Result<PlainFiles, Memory>
     requires { first.size ≤ max_file }
     ensures value { IfOk result (λ b. b ≡ new_board 0 (firsts_of first)) }
     ensures byte { first.fill < 256 }
@@ -100,7 +130,8 @@ fn entry_lines(alloc: Global, history: &[Entry]) -> Result<List<EntryLine>, Memo
 }
 
 // The first guest, where there is one.
-pub(crate) fn play_guests<W>(
+fn play_guests<R: Wait, W>(
+    rt: &R,
     alloc: Global,
     client: &mut Driver<W>,
     name: &Name,
@@ -126,7 +157,7 @@ where
     match guests {
         [] => {}
         [calls, ..] => {
-            let lines = play_guest(alloc, client, name, calls.as_slice(), files, map)?;
+            let lines = play_guest(rt, alloc, client, name, calls.as_slice(), files, map)?;
             parts.push(GuestPart { guest: 0, lines })?;
         }
     }
@@ -134,7 +165,8 @@ where
 }
 
 // Guest 0 on the only file, from the beginning of its session on.
-fn play_guest<W>(
+fn play_guest<R: Wait, W>(
+    rt: &R,
     alloc: Global,
     client: &mut Driver<W>,
     name: &Name,
@@ -155,12 +187,13 @@ where
     ensures history { OnOk result ((file_at files.new 0).history ≡ (file_at files.old 0).history ++ entries_from 0 calls.now) }
     ensures many { OnOk result (length files.new.files ≡ 16) }
 {
-    let at = start_session(alloc, client, name, files, map)?;
-    play_calls(alloc, client, at, calls, files, map)
+    let at = start_session(rt, alloc, client, name, files, map)?;
+    play_calls(rt, alloc, client, at, calls, files, map)
 }
 
 // Begins the session, and opens the only file.
-fn start_session<W>(
+fn start_session<R: Wait, W>(
+    rt: &R,
     alloc: Global,
     client: &mut Driver<W>,
     name: &Name,
@@ -175,14 +208,15 @@ where
     ensures at { IfOk result (λ at. IsOpened at (W.wire client.new.wire) (boards files.new map.new)) }
     ensures files { OnOk result (files.new ≡ files.old) }
 {
-    begin(alloc, client, files, map)?;
-    let node = look_up(alloc, client, name, files, map)?;
-    let fh = open_file(alloc, client, node, files, map)?;
+    begin(rt, alloc, client, files, map)?;
+    let node = look_up(rt, alloc, client, name, files, map)?;
+    let fh = open_file(rt, alloc, client, node, files, map)?;
     Ok(FileRef { node, fh })
 }
 
 // The calls of guest 0 on the open file.
-fn play_calls<W>(
+fn play_calls<R: Wait, W>(
+    rt: &R,
     alloc: Global,
     client: &mut Driver<W>,
     at: FileRef,
@@ -205,7 +239,7 @@ where
     let mut number = 0;
     let mut rest = calls;
     while let [call, after @ ..] = rest {
-        let line = play_call(alloc, client, at, number, call, files, map)?;
+        let line = play_call(rt, alloc, client, at, number, call, files, map)?;
         lines.push(line)?;
         number += 1;
         rest = after;
@@ -214,7 +248,8 @@ where
 }
 
 #[tactic(auto, unfolding(crate::specs::TranscriptReading::IsPrintableLine))]
-fn play_call<W>(
+fn play_call<R: Wait, W>(
+    rt: &R,
     alloc: Global,
     client: &mut Driver<W>,
     at: FileRef,
@@ -236,7 +271,7 @@ where
     ensures history { OnOk result ((file_at files.new 0).history ≡ (file_at files.old 0).history ++ the_entry number call.now ∷ []) }
 {
     files.mark(number, Way::Req);
-    let answer = ask(alloc, client, at, call, files, map)?;
+    let answer = ask(rt, alloc, client, at, call, files, map)?;
     let place = files.own_last(0).unwrap();
     Ok(Numbered {
         call: number,
@@ -246,7 +281,8 @@ where
 
 // One request.
 #[tactic(auto, unfolding(crate::specs::Script::op_of, crate::specs::Script::IsCall, plain_file::specs::File::answer, crate::specs::TranscriptReading::IsPrintableAnswer))]
-fn ask<W>(
+fn ask<R: Wait, W>(
+    rt: &R,
     alloc: Global,
     client: &mut Driver<W>,
     at: FileRef,
@@ -265,12 +301,12 @@ where
 {
     match call {
         Call::Read { off, len, .. } => {
-            let bytes = read(alloc, client, at, *off, *len, files, map)?;
+            let bytes = read(rt, alloc, client, at, *off, *len, files, map)?;
             Ok(Answer::Bytes(bytes))
         }
         Call::Write { off, bytes, .. } => {
             let bytes = bytes.as_slice();
-            let size = write(alloc, client, at, *off, bytes, files, map)?;
+            let size = write(rt, alloc, client, at, *off, bytes, files, map)?;
             Ok(Answer::Wrote(size as u64))
         }
     }

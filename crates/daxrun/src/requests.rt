@@ -16,12 +16,14 @@ use guest_wire::{Driver, FileRef, Wire, WireRefusal};
 use page_map::PageMap;
 use plain_file::{Blob, Memory, Name, PlainFiles};
 use std::alloc::Global;
+use std::sync::Wait;
 
 // The requests of a run, each by one call of the client, over an honest wire. They are asked where they
 // succeed, so that want of memory alone is in their way; after it a request may have been carried out.
 
 // Begins a session, which has no window: INIT.
-pub(crate) fn begin<W>(
+pub(crate) fn begin<R: Wait, W>(
+    rt: &R,
     alloc: Global,
     client: &mut Driver<W>,
     files: &mut PlainFiles,
@@ -35,12 +37,13 @@ where
         ≡ record (world_at (W.wire client.old.wire) (boards files.old map.old)) { state = begun (W.wire client.old.wire).state }) }
     ensures number { client.new.unique ≡ next_number client.old.unique }
 {
-    finish(client.init(alloc, false, files, map))?;
+    finish(client.init(rt, alloc, false, files, map))?;
     Ok(())
 }
 
 // Looks up the file of a name in the directory, and answers its node: LOOKUP.
-pub(crate) fn look_up<W>(
+pub(crate) fn look_up<R: Wait, W>(
+    rt: &R,
     alloc: Global,
     client: &mut Driver<W>,
     name: &Name,
@@ -59,12 +62,13 @@ where
         ≡ record (world_at (W.wire client.old.wire) (boards files.old map.old)) { state = looked_up (W.wire client.old.wire).state i }) }
     ensures number { client.new.unique ≡ next_number client.old.unique }
 {
-    let entry = finish(client.lookup(alloc, name, files, map))?;
+    let entry = finish(client.lookup(rt, alloc, name, files, map))?;
     Ok(entry.nodeid)
 }
 
 // Opens a file, to read and write it, and answers the number of the handle: OPEN.
-pub(crate) fn open_file<W>(
+pub(crate) fn open_file<R: Wait, W>(
+    rt: &R,
     alloc: Global,
     client: &mut Driver<W>,
     node: u64,
@@ -85,12 +89,13 @@ where
         ≡ record (world_at (W.wire client.old.wire) (boards files.old map.old)) { state = with_open (W.wire client.old.wire).state node }) }
     ensures number { client.new.unique ≡ next_number client.old.unique }
 {
-    let fh = finish(client.open_file(alloc, node, files, map))?;
+    let fh = finish(client.open_file(rt, alloc, node, files, map))?;
     Ok(fh)
 }
 
 // Reads an open file: the bytes of the interval that lie below the file's end. READ.
-pub(crate) fn read<W>(
+pub(crate) fn read<R: Wait, W>(
+    rt: &R,
     alloc: Global,
     client: &mut Driver<W>,
     at: FileRef,
@@ -112,13 +117,14 @@ where
         ≡ record (world_at (W.wire client.old.wire) (boards files.old map.old)) { files = applied files.old (at.node - 2) (ops.Read off len) }) }
     ensures number { client.new.unique ≡ next_number client.old.unique }
 {
-    let bytes = finish(client.read(alloc, at, off, len, files, map))?;
+    let bytes = finish(client.read(rt, alloc, at, off, len, files, map))?;
     look(bytes.as_slice());
     Ok(bytes)
 }
 
 // Writes to an open file, and answers how many bytes were written, which are all: WRITE.
-pub(crate) fn write<W>(
+pub(crate) fn write<R: Wait, W>(
+    rt: &R,
     alloc: Global,
     client: &mut Driver<W>,
     at: FileRef,
@@ -140,7 +146,7 @@ where
         ≡ record (world_at (W.wire client.old.wire) (boards files.old map.old)) { files = applied files.old (at.node - 2) (ops.Write off bytes.now) }) }
     ensures number { client.new.unique ≡ next_number client.old.unique }
 {
-    let size = finish(client.write(alloc, at, off, bytes, files, map))?;
+    let size = finish(client.write(rt, alloc, at, off, bytes, files, map))?;
     Ok(size)
 }
 

@@ -3,8 +3,8 @@ use Rattle.std.proofs.Common.{◌≡◌, ◌∙◌, refl, ap, arith, ◌≤◌, 
 use Rattle.std.specs.Prelude.{IsOk}
 use Rattle.std.proofs.lemmas.List.Sums.{sum_by-cons}
 use Rattle.std.proofs.lemmas.List.{length-take, length-append}
+use Rattle.plain_file.specs.Limits.{max_part}
 use Rattle.fuse_wire.proofs.Laws.{IsBytes}
-use Rattle.fuse_codec.specs.Grammar.{max_part}
 use Rattle.fuse_codec.specs.Opcodes.{number, opcode_of, reply_form}
 use Rattle.fuse_codec.specs.Replies.{answered, answer_form}
 use Rattle.fuse_codec.specs.declared.opcodes.ReplyForm.TheVariants as forms

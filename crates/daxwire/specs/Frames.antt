@@ -2,6 +2,7 @@
 use Rattle.std.specs.Prelude.{ℕ, zero, suc, ◌+◌, ◌-◌, ◌*◌, ◌≤◌, ◌==◌, Bool, true, false, ◌||◌, ◌&&◌, nat_lt, nat_le, List, [], ◌∷◌, length, map, sum, take, drop, codes, if◌then◌else◌}
 use Rattle.std.specs.List.{range_with_len}
 use Rattle.std.specs.Str.{bytes_eq}
+use Rattle.plain_file.specs.Limits.{max_part, max_transfer}
 use Rattle.fuse_wire.specs.Records.{u16_at, u32_at, u64_at}
 use Rattle.daxwire.specs.declared.frames.Front.{Front}
 use Rattle.daxwire.specs.declared.frames.Front.TheVariants as fronts
@@ -34,7 +35,7 @@ lengths_at bytes first n = map (λ k. u32_at bytes (5 + 4 * k)) (range_with_len 
 -- of so many bytes, a chain whose lengths are there
 abbrev pub chain_parts : ℕ → ℕ → ℕ → ℕ → Front
 chain_parts n parts readable room =
-    if nat_lt 1052672 readable || nat_lt 1052672 room then fronts.Bad reasons.Bound
+    if nat_lt max_part readable || nat_lt max_part room then fronts.Bad reasons.Bound
     else if nat_lt n (5 + 4 * parts + readable) then fronts.Cut
     else fronts.Chain parts readable room
 
@@ -49,7 +50,7 @@ unfoldable pub chain_front : List ℕ → Front
 chain_front bytes = if nat_lt (length bytes) 5 then fronts.Cut else chain_with bytes (u16_at bytes 1) (u16_at bytes 3)
 
 abbrev pub load_with : ℕ → ℕ → Front
-load_with moffset len = if nat_lt 1048576 len then fronts.Bad reasons.Bound else fronts.Load moffset len
+load_with moffset len = if nat_lt max_transfer len then fronts.Bad reasons.Bound else fronts.Load moffset len
 
 unfoldable pub load_front : List ℕ → Front
 load_front bytes = if nat_lt (length bytes) 13 then fronts.Cut else load_with (u64_at bytes 1) (u32_at bytes 9)
@@ -57,7 +58,7 @@ load_front bytes = if nat_lt (length bytes) 13 then fronts.Cut else load_with (u
 -- of so many bytes, a store whose length is there
 abbrev pub store_with : ℕ → ℕ → ℕ → Front
 store_with n moffset len =
-    if nat_lt 1048576 len then fronts.Bad reasons.Bound
+    if nat_lt max_transfer len then fronts.Bad reasons.Bound
     else if nat_lt n (13 + len) then fronts.Cut
     else fronts.Store moffset len
 
@@ -84,9 +85,9 @@ front_len fronts.Nothing = 0
 
 -- what every front of bytes keeps to
 unfoldable pub IsBounded : Front → Type 0
-IsBounded (fronts.Chain parts readable room) = (parts ≤ 2048) × (readable ≤ 1052672) × (room ≤ 1052672)
-IsBounded (fronts.Load moffset len) = len ≤ 1048576
-IsBounded (fronts.Store moffset len) = len ≤ 1048576
+IsBounded (fronts.Chain parts readable room) = (parts ≤ 2048) × (readable ≤ max_part) × (room ≤ max_part)
+IsBounded (fronts.Load moffset len) = len ≤ max_transfer
+IsBounded (fronts.Store moffset len) = len ≤ max_transfer
 IsBounded (fronts.Bad reason) = Unit {0}
 IsBounded fronts.Cut = Unit {0}
 IsBounded fronts.Nothing = Unit {0}

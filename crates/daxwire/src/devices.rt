@@ -1,5 +1,5 @@
 ghost use Rattle.std.specs.Prelude.{◌≡◌, ◌≤◌, length, IfOk, OnOk};
-ghost use Rattle.fuse_codec.specs.Grammar.{max_part};
+ghost use Rattle.plain_file.specs.Limits.{max_part, max_transfer};
 ghost use Rattle.fuse_device.specs.Promises.{world};
 ghost use Rattle.fuse_device.specs.Steps.{device_step};
 ghost use Rattle.window_access.specs.Access.{Loads, Stores};
@@ -65,7 +65,7 @@ impl Device {
 
     /// Loads at most 1,048,576 bytes from the window, as `load_window` does.
     pub fn load(&mut self, alloc: Global, moffset: u64, len: u32) -> Result<Blob, WindowRefusal>
-        requires { len ≤ 1048576 }
+        requires { len ≤ max_transfer }
         ensures loads { Loads self.old.files self.old.map moffset len result }
         ensures same { self.new ≡ self.old }
     {
@@ -74,7 +74,7 @@ impl Device {
 
     /// Stores at most 1,048,576 bytes to the window, as `store_window` does.
     pub fn store(&mut self, alloc: Global, moffset: u64, bytes: &[u8]) -> Result<(), WindowRefusal>
-        requires { length bytes.now ≤ 1048576 }
+        requires { length bytes.now ≤ max_transfer }
         ensures stores { Stores self.old.files self.old.map moffset bytes.now result self.new.files }
         ensures same { self.new ≡ world self.old.state self.new.files self.old.map }
     {

@@ -2,6 +2,7 @@ ghost use Rattle.std.specs.Prelude.{◌≡◌, ◌≤◌, ◌<◌, ◌+◌, ◌*
 ghost use Rattle.daxwire.specs.Frames.{reason_number, lengths_at, chain_with, chain_front, load_front, store_front, front, front_len, IsBounded};
 
 use fuse_wire::{u16_at, u32_at, u64_at};
+use plain_file::{MAX_PART, MAX_TRANSFER};
 
 /// Why a stream is malformed.
 #[derive(Clone, Copy, Debug, PartialEq, Eq)]
@@ -111,7 +112,7 @@ fn chain_with(bytes: &[u8], nr: u16, nw: u16) -> Front
     }
     let readable = sum_at(bytes, 0, nr as usize);
     let room = sum_at(bytes, nr as usize, nw as usize);
-    if readable > 1_052_672 || room > 1_052_672 {
+    if readable > MAX_PART as u64 || room > MAX_PART as u64 {
         return Front::Bad(Reason::Bound);
     }
     if ((bytes.len() - from) as u64) < readable {
@@ -146,7 +147,7 @@ fn load_front(bytes: &[u8]) -> Front
         return Front::Cut;
     }
     let len = u32_at(bytes, 9);
-    if len > 1_048_576 {
+    if len > MAX_TRANSFER {
         return Front::Bad(Reason::Bound);
     }
     Front::Load {
@@ -165,7 +166,7 @@ fn store_front(bytes: &[u8]) -> Front
         return Front::Cut;
     }
     let len = u32_at(bytes, 9);
-    if len > 1_048_576 {
+    if len > MAX_TRANSFER {
         return Front::Bad(Reason::Bound);
     }
     if bytes.len() - 13 < len as usize {

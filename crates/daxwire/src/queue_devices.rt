@@ -1,5 +1,5 @@
 ghost use Rattle.std.specs.Prelude.{◌≡◌, ◌≤◌, ◌<◌, ◌^◌, length, Ok, Some, None, Err, IfOk, OnOk};
-ghost use Rattle.fuse_codec.specs.Grammar.{max_part};
+ghost use Rattle.plain_file.specs.Limits.{max_part};
 ghost use Rattle.vring.specs.Layout.{IsLayout};
 ghost use Rattle.vring.specs.Chain.{ChainLiesIn, chain_at};
 ghost use Rattle.daxwire.specs.RingText.{offered, popped, answered, answer_to, readable_in, lines_of, IsAnswer, Advances};

@@ -1,8 +1,8 @@
 ghost use Rattle.std.specs.Prelude.{◌≡◌, ◌≤◌, ◌<◌, ◌^◌, ◌++◌, length, codes, OnOk, IsOk, Some};
 ghost use Rattle.std.specs.Fmt.{decimal};
+ghost use Rattle.plain_file.specs.Limits.{max_part};
 ghost use Rattle.hex.specs.Hex.{encode_lower};
 ghost use Rattle.sha2.specs.Sha256.{sha256};
-ghost use Rattle.fuse_codec.specs.Grammar.{max_part};
 ghost use Rattle.fuse_codec.specs.Replies.{answer_form};
 ghost use Rattle.fuse_codec.specs.Reading.{message_of};
 ghost use Rattle.fuse_device.specs.Steps.{header_at};

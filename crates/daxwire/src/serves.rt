@@ -1,5 +1,5 @@
 ghost use Rattle.std.specs.Prelude.{◌≡◌, ◌≤◌, ◌++◌, ◌∷◌, [], length, IfOk, OnOk};
-ghost use Rattle.fuse_codec.specs.Grammar.{max_part};
+ghost use Rattle.plain_file.specs.Limits.{max_part, max_transfer};
 ghost use Rattle.fuse_device.specs.Steps.{device_step};
 ghost use Rattle.daxwire.specs.Frames.{front_len, IsBounded};
 ghost use Rattle.daxwire.specs.Serve.{Makes, chain_output, fault_output, first_world, front_step, load_step, refusal_number, store_step};
@@ -39,7 +39,7 @@ impl Device {
         len: u32,
         out: &mut Vec<u8>,
     ) -> Result<(), Memory>
-        requires { len ≤ 1048576 }
+        requires { len ≤ max_transfer }
         ensures { OnOk result (Makes (load_step self.old moffset len) out.old.items self.new out.new.items) }
     {
         match self.load(alloc, moffset, len) {
@@ -66,7 +66,7 @@ impl Device {
         bytes: &[u8],
         out: &mut Vec<u8>,
     ) -> Result<(), Memory>
-        requires { length bytes.now ≤ 1048576 }
+        requires { length bytes.now ≤ max_transfer }
         ensures { OnOk result (Makes (store_step self.old moffset bytes.now) out.old.items self.new out.new.items) }
     {
         match self.store(alloc, moffset, bytes) {

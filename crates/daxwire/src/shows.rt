@@ -1,8 +1,8 @@
 ghost use Rattle.std.specs.Prelude.{◌≡◌, ◌≤◌, ◌++◌, length, OnOk};
 ghost use Rattle.std.specs.Fmt.{decimal};
+ghost use Rattle.plain_file.specs.Limits.{max_part};
 ghost use Rattle.daxwire.specs.Frames.{front_len, IsBounded};
 ghost use Rattle.daxwire.specs.Show.{chain_line, front_line, end_line};
-ghost use Rattle.fuse_codec.specs.Grammar.{max_part};
 ghost use Rattle.fuse_codec.specs.Reading.{message_of};
 
 use crate::frames::{End, Front};

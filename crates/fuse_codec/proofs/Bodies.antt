@@ -6,6 +6,7 @@ use Rattle.std.specs.Str.{bytes_eq}
 use Rattle.std.proofs.lemmas.Bool.{eq-eqb, eqb-true, ne_eqb, ltb-false, le-ltb, le-leb, and_parts, and_from}
 use Rattle.std.proofs.lemmas.List.{length-take, length-drop, length-append, take-append-drop, take_at, drop_at, drop-drop, nil_from_length}
 use Rattle.std.proofs.lemmas.Slice.Eq.{bytes_eq-Decides}
+use Rattle.plain_file.specs.Limits.{max_part}
 use Rattle.plain_file.specs.Names.{is_name, checked_name}
 use Rattle.fuse_wire.specs.Layout.{Part, U32, Unused, Bytes, AreSpelled}
 use Rattle.fuse_wire.specs.Records.{u32_at, write_in, write_in_at, write_in_of}
@@ -28,7 +29,7 @@ use Rattle.fuse_codec.specs.declared.opcodes.Opcode.{Opcode}
 use Rattle.fuse_codec.specs.declared.opcodes.Opcode.TheVariants as opcodes
 use Rattle.fuse_codec.specs.declared.messages.Request.{Request}
 use Rattle.fuse_codec.specs.declared.messages.Request.TheVariants as requests
-use Rattle.fuse_codec.specs.Grammar.{kind_of, body_parts, is_bounded, named, SpellsBody, max_part}
+use Rattle.fuse_codec.specs.Grammar.{kind_of, body_parts, is_bounded, named, SpellsBody}
 use Rattle.fuse_codec.specs.Reading.{name_of, forget_of, write_with, write_of, create_of, records_at, forgets_with, forgets_of, remove_with, remove_of, body_of}
 use Rattle.fuse_codec.proofs.Steps.{mapped_some, went_on, held}
 use Rattle.fuse_codec.proofs.Ones.{ones_found, ones_again}

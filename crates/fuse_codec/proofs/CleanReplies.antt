@@ -2,6 +2,7 @@
 use Rattle.std.proofs.Common.{◌≡◌, ℕ, ◌≤◌, true, List, [], ◌∷◌, ◌++◌, length, refl, sym, subst, ◌∙◌, ap, arith}
 use Rattle.std.proofs.lemmas.Bool.{leb-true}
 use Rattle.std.proofs.lemmas.List.{append-nil, append_assoc, length-append}
+use Rattle.plain_file.specs.Limits.{max_transfer}
 use Rattle.fuse_wire.specs.Layout.{Bytes, AreSpelled, FitsParts, clean, parts_len}
 use Rattle.fuse_wire.specs.Records.{out_header, write_out}
 use Rattle.fuse_wire.specs.Attributes.{entry_out, attr_out}
@@ -20,7 +21,6 @@ use Rattle.fuse_wire.proofs.InitLaws.{init_out_law}
 use Rattle.fuse_codec.specs.declared.opcodes.ReplyForm.{ReplyForm}
 use Rattle.fuse_codec.specs.declared.replies.Reply.{Reply}
 use Rattle.fuse_codec.specs.declared.replies.Reply.TheVariants as replies
-use Rattle.fuse_codec.specs.Grammar.{max_transfer}
 use Rattle.fuse_codec.specs.Replies.{reply_parts, is_reply, HasForm, reply_header, SpellsReply, reply_len, clean_reply}
 
 -- ---- how many bytes the records take

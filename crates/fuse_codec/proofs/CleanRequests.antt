@@ -3,6 +3,7 @@ use Rattle.std.proofs.Common.{◌≡◌, ℕ, ◌+◌, ◌*◌, ◌<◌, ◌≤�
 use Rattle.std.specs.List.{flat_map}
 use Rattle.std.proofs.lemmas.Bool.{leb-true, ltb-false, and_parts}
 use Rattle.std.proofs.lemmas.List.{append-nil, append_assoc, length-append}
+use Rattle.plain_file.specs.Limits.{max_part}
 use Rattle.plain_file.specs.Names.{is_name}
 use Rattle.fuse_wire.specs.Layout.{Bytes, AreSpelled, FitsParts, clean, parts_len}
 use Rattle.fuse_wire.specs.Records.{in_header, write_in}
@@ -24,7 +25,7 @@ use Rattle.fuse_wire.specs.declared.mappings.RemoveOne.{RemoveOne}
 use Rattle.fuse_codec.specs.declared.messages.Request.{Request}
 use Rattle.fuse_codec.specs.declared.messages.Request.TheVariants as requests
 use Rattle.fuse_codec.specs.declared.messages.Message.{Message}
-use Rattle.fuse_codec.specs.Grammar.{body_parts, is_bounded, named, header_of, clean_message, max_part, Spells}
+use Rattle.fuse_codec.specs.Grammar.{body_parts, is_bounded, named, header_of, clean_message, Spells}
 use Rattle.fuse_codec.proofs.Ones.{ones_len}
 
 -- ---- how many bytes a body has

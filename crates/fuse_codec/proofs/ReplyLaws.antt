@@ -5,6 +5,7 @@ use Rattle.std.proofs.Math.IntN.{neg_ℤ-neg_ℤ}
 use Rattle.std.proofs.lemmas.Int.{ints}
 use Rattle.std.proofs.lemmas.Bool.{eq-eqb, eqb-true, not-false, ltb-false, le-ltb}
 use Rattle.std.proofs.lemmas.List.{length-take, length-append, take-append-drop, take_at, drop_at, nil_from_length}
+use Rattle.plain_file.specs.Limits.{max_transfer}
 use Rattle.fuse_wire.specs.Layout.{Part, AreSpelled}
 use Rattle.fuse_wire.specs.Records.{out_header, out_header_at, out_header_of, write_out, write_out_of}
 use Rattle.fuse_wire.specs.Attributes.{entry_out, entry_out_at, entry_out_of, attr_out, attr_out_of}
@@ -24,7 +25,6 @@ use Rattle.fuse_codec.specs.declared.replies.Reply.{Reply}
 use Rattle.fuse_codec.specs.declared.replies.Reply.TheVariants as replies
 use Rattle.fuse_codec.specs.declared.errors.BadReply.{BadReply}
 use Rattle.fuse_codec.specs.declared.errors.BadReply.TheVariants as bad_replies
-use Rattle.fuse_codec.specs.Grammar.{max_transfer}
 use Rattle.fuse_codec.specs.Replies.{form_of, reply_parts, error_of, is_error_number, is_reply, HasForm, reply_header, SpellsReply, answer_form, SpellsAnswer}
 use Rattle.fuse_codec.specs.ReplyReading.{created_of, success_of, reply_body_of, reply_with, reply_after, reply_of, GivesReply, AnswerGives}
 use Rattle.fuse_codec.proofs.Steps.{mapped_some, went_on}

@@ -4,6 +4,7 @@ use Rattle.std.specs.Prelude.{IfOk}
 use Rattle.std.specs.List.{find}
 use Rattle.std.proofs.lemmas.Bool.{eq-eqb, eqb-true, not-false, ltb-false, le-ltb}
 use Rattle.std.proofs.lemmas.List.{length-take, length-drop, length-append, take-append-drop, take_at, drop_at}
+use Rattle.plain_file.specs.Limits.{max_part}
 use Rattle.fuse_wire.specs.Layout.{AreSpelled}
 use Rattle.fuse_wire.specs.Records.{in_header, in_header_at, in_header_of}
 use Rattle.fuse_wire.specs.declared.records.InHeader.{InHeader}
@@ -16,7 +17,7 @@ use Rattle.fuse_codec.specs.declared.messages.Message.{Message}
 use Rattle.fuse_codec.specs.declared.errors.BadRequest.{BadRequest}
 use Rattle.fuse_codec.specs.declared.errors.BadRequest.TheVariants as bad_requests
 use Rattle.fuse_codec.specs.Opcodes.{number, operations, opcode_of}
-use Rattle.fuse_codec.specs.Grammar.{kind_of, header_of, Spells, max_part}
+use Rattle.fuse_codec.specs.Grammar.{kind_of, header_of, Spells}
 use Rattle.fuse_codec.specs.Reading.{body_of, message_with, message_as, message_after, message_of, Gives}
 use Rattle.fuse_codec.proofs.Bodies.{body_found, body_again}
 

@@ -17,15 +17,8 @@ use Rattle.fuse_codec.specs.declared.opcodes.ReplyForm.TheVariants as forms
 use Rattle.fuse_codec.specs.declared.messages.Request.{Request}
 use Rattle.fuse_codec.specs.declared.messages.Request.TheVariants as requests
 use Rattle.fuse_codec.specs.declared.messages.Message.{Message}
+use Rattle.plain_file.specs.Limits.{max_part, max_transfer}
 use Rattle.fuse_codec.specs.Opcodes.{number, reply_form}
-
--- the most bytes that the readable or the writable part of a chain has
-abbrev pub max_part : ℕ
-max_part = 1052672
-
--- the most bytes that one request reads or writes
-abbrev pub max_transfer : ℕ
-max_transfer = 1048576
 
 -- the operation of a request
 unfoldable pub kind_of : Request → Opcode

@@ -1,6 +1,7 @@
 -- What bytes say, read at their offsets: a request, or the first reason against it.
 use Rattle.std.specs.Prelude.{◌≡◌, ℕ, zero, suc, ◌-◌, ◌*◌, ◌==◌, ◌&&◌, not, nat_lt, nat_le, List, [], ◌∷◌, length, take, drop, Option, Some, None, option_map, Result, Ok, Err, IsOk, if◌then◌else◌}
 use Rattle.std.specs.Str.{bytes_eq}
+use Rattle.plain_file.specs.Limits.{max_transfer}
 use Rattle.plain_file.specs.Names.{checked_name}
 use Rattle.fuse_wire.specs.Records.{u32_at, in_header_at, read_in_of, write_in_at}
 use Rattle.fuse_wire.specs.Attributes.{getattr_in_of, setattr_in_of}
@@ -19,7 +20,6 @@ use Rattle.fuse_codec.specs.declared.messages.Message.{Message}
 use Rattle.fuse_codec.specs.declared.errors.BadRequest.{BadRequest}
 use Rattle.fuse_codec.specs.declared.errors.BadRequest.TheVariants as bad_requests
 use Rattle.fuse_codec.specs.Opcodes.{opcode_of}
-use Rattle.fuse_codec.specs.Grammar.{max_transfer}
 
 -- the name before one last byte 0
 unfoldable pub name_of : List ℕ → Option (List ℕ)

@@ -1,5 +1,6 @@
 -- The grammar of replies: what each reply is on the wire, as parts in their order.
 use Rattle.std.specs.Prelude.{◌≡◌, ℕ, ◌+◌, ◌&&◌, ℤ, pos, neg_ℤ, int_lt, int_le, Bool, true, nat_le, List, [], ◌∷◌, ◌++◌, length, Option, Some, None, IfSome}
+use Rattle.plain_file.specs.Limits.{max_transfer}
 use Rattle.fuse_wire.specs.Layout.{Part, Bytes, AreSpelled, clean, parts_len}
 use Rattle.fuse_wire.specs.Records.{out_header, write_out}
 use Rattle.fuse_wire.specs.Attributes.{entry_out, attr_out}
@@ -12,7 +13,6 @@ use Rattle.fuse_codec.specs.declared.opcodes.ReplyForm.TheVariants as forms
 use Rattle.fuse_codec.specs.declared.replies.Reply.{Reply}
 use Rattle.fuse_codec.specs.declared.replies.Reply.TheVariants as replies
 use Rattle.fuse_codec.specs.Opcodes.{opcode_of, reply_form}
-use Rattle.fuse_codec.specs.Grammar.{max_transfer}
 
 -- the form of a success; an error has none
 unfoldable pub form_of : Reply → Option ReplyForm

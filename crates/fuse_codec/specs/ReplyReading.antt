@@ -1,5 +1,6 @@
 -- What bytes say, read at their offsets: a reply with the number of its request, or the first reason against it.
 use Rattle.std.specs.Prelude.{◌≡◌, ℕ, ℤ, pos, neg_ℤ, int_lt, ◌==◌, ◌||◌, not, nat_lt, nat_le, List, length, take, drop, Option, Some, None, option_map, Result, Ok, Err, IsOk, if◌then◌else◌}
+use Rattle.plain_file.specs.Limits.{max_transfer}
 use Rattle.fuse_wire.specs.Records.{out_header_at, write_out_of}
 use Rattle.fuse_wire.specs.Attributes.{entry_out_at, entry_out_of, attr_out_of}
 use Rattle.fuse_wire.specs.Opens.{open_out_of}
@@ -11,7 +12,6 @@ use Rattle.fuse_codec.specs.declared.replies.Reply.{Reply}
 use Rattle.fuse_codec.specs.declared.replies.Reply.TheVariants as replies
 use Rattle.fuse_codec.specs.declared.errors.BadReply.{BadReply}
 use Rattle.fuse_codec.specs.declared.errors.BadReply.TheVariants as bad_replies
-use Rattle.fuse_codec.specs.Grammar.{max_transfer}
 use Rattle.fuse_codec.specs.Replies.{answer_form}
 
 -- a CREATE's body

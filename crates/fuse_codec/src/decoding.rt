@@ -1,7 +1,8 @@
 ghost use Rattle.std.specs.Prelude.{◌≡◌, ◌≤◌, ◌*◌, length, IfOk, OnErr, IsSome, Ok, Err};
+ghost use Rattle.plain_file.specs.Limits.{max_part};
 ghost use Rattle.fuse_wire.specs.Forgets.{forget_one_at};
 ghost use Rattle.fuse_wire.specs.Mappings.{remove_one_at};
-ghost use Rattle.fuse_codec.specs.Grammar.{max_part, Spells};
+ghost use Rattle.fuse_codec.specs.Grammar.{Spells};
 ghost use Rattle.fuse_codec.specs.Reading.{name_of, write_of, create_of, forgets_of, remove_of, records_at, body_of, message_after, message_of, Gives};
 ghost use Rattle.fuse_codec.specs.declared.messages.Message.{Message};
 ghost use Rattle.fuse_codec.specs.declared.errors.BadRequest.{BadRequest};

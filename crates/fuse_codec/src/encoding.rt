@@ -1,11 +1,12 @@
 ghost use Rattle.std.specs.Prelude.{◌≡◌, ◌≤◌, ◌+◌, ◌*◌, [], ◌∷◌, ◌++◌, true, length, IfOk, OnOk, OnErr, Ok, vec_len, vec_capacity};
 ghost use Rattle.std.specs.List.{flat_map};
+ghost use Rattle.plain_file.specs.Limits.{max_part};
 ghost use Rattle.fuse_wire.specs.Layout.{Bytes, clean, parts_len};
 ghost use Rattle.fuse_wire.specs.Forgets.{forget_one};
 ghost use Rattle.fuse_wire.specs.Records.{write_in};
 ghost use Rattle.fuse_wire.specs.Opens.{create_in};
 ghost use Rattle.fuse_wire.specs.Mappings.{remove_one};
-ghost use Rattle.fuse_codec.specs.Grammar.{body_parts, named, is_bounded, header_of, clean_message, max_part, Spells};
+ghost use Rattle.fuse_codec.specs.Grammar.{body_parts, named, is_bounded, header_of, clean_message, Spells};
 ghost use Rattle.fuse_codec.specs.Reading.{message_of};
 
 use crate::fitting::numbers_fit;

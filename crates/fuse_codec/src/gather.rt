@@ -1,5 +1,5 @@
+ghost use Rattle.plain_file.specs.Limits.{max_part};
 ghost use Rattle.std.specs.Prelude.{◌≡◌, ◌≤◌, ◌+◌, [], ◌++◌, length, OnOk, OnErr};
-ghost use Rattle.fuse_codec.specs.Grammar.{max_part};
 
 use plain_file::Memory;
 use std::alloc::Global;
@@ -14,7 +14,6 @@ pub struct Gather {
 
 impl Model for Gather {
     ghost use Rattle.std.specs.Prelude.{◌≤◌, List, ℕ, length};
-    ghost use Rattle.fuse_codec.specs.Grammar.{max_part};
 
     ghost Value = { List ℕ };
 

@@ -9,7 +9,7 @@ use crate::errors::BadReply;
 use crate::opcodes::{Opcode, ReplyForm};
 use crate::replies::Reply;
 use fuse_wire::{AttrOut, EntryOut, InitOut, OpenOut, OutHeader, WriteOut};
-use plain_file::{Blob, Memory};
+use plain_file::{Blob, MAX_TRANSFER, Memory};
 use std::alloc::Global;
 
 #[tactic(auto, unfolding(crate::specs::ReplyReading::created_of, fuse_wire::specs::Attributes::entry_out_of))]
@@ -35,7 +35,7 @@ fn success_of(alloc: Global, form: ReplyForm, bytes: &[u8]) -> Result<Option<Rep
         ReplyForm::Attr => Ok(AttrOut::read(bytes).map(Reply::Attr)),
         ReplyForm::Opened => Ok(OpenOut::read(bytes).map(Reply::Opened)),
         ReplyForm::Created => Ok(created_of(bytes)),
-        ReplyForm::Bytes if bytes.len() <= 1_048_576 => {
+        ReplyForm::Bytes if bytes.len() <= MAX_TRANSFER as usize => {
             let bytes = Blob::copy_of(alloc, bytes)?;
             Ok(Some(Reply::Bytes(bytes)))
         }

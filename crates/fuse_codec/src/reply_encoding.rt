@@ -6,7 +6,7 @@ ghost use Rattle.fuse_codec.specs.declared.opcodes.ReplyForm.{ReplyForm};
 
 use crate::replies::Reply;
 use fuse_wire::{AttrOut, EntryOut, InitOut, OpenOut, OutHeader, WriteOut};
-use plain_file::{Blob, Memory};
+use plain_file::{Blob, MAX_TRANSFER, Memory};
 use std::alloc::Global;
 
 impl Reply {
@@ -19,7 +19,7 @@ impl Reply {
     {
         match self {
             Reply::Error { number } => *number > 0 && *number <= 4095,
-            Reply::Bytes(bytes) => bytes.len() <= 1_048_576,
+            Reply::Bytes(bytes) => bytes.len() <= MAX_TRANSFER as usize,
             _ => true,
         }
     }

@@ -3,6 +3,7 @@ use Rattle.std.proofs.Common.{◌≡◌, ◌∙◌, ◌^◌, sym, refl, subst, a
 use Rattle.std.specs.Prelude.{pos, IfOk, unwrap_or}
 use Rattle.std.proofs.lemmas.Bool.{eq-eqb, ltb-false, le-ltb}
 use Rattle.std.proofs.lemmas.List.{length-take, take_at}
+use Rattle.plain_file.specs.Limits.{max_part}
 use Rattle.fuse_wire.specs.Layout.{AreSpelled, FitsParts}
 use Rattle.fuse_wire.specs.Errno.{errno_number}
 use Rattle.fuse_wire.specs.Records.{in_header, in_header_of, in_header_at}
@@ -11,7 +12,7 @@ use Rattle.fuse_wire.specs.declared.errno.Errno.TheVariants as errnos
 use Rattle.fuse_wire.specs.declared.records.InHeader.{InHeader}
 use Rattle.fuse_wire.proofs.Laws.{IsBytes, IsBytes-take, spelled_fits}
 use Rattle.fuse_wire.proofs.RecordLaws.{cond_some, in_header_law}
-use Rattle.fuse_codec.specs.Grammar.{kind_of, max_part, header_of, asked, Spells}
+use Rattle.fuse_codec.specs.Grammar.{kind_of, header_of, asked, Spells}
 use Rattle.fuse_codec.specs.Opcodes.{reply_form}
 use Rattle.fuse_codec.specs.Reading.{message_of}
 use Rattle.fuse_codec.specs.Replies.{form_of, reply_parts, is_reply, HasForm, reply_len, answer_form}

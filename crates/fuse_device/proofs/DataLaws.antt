@@ -3,7 +3,7 @@ use Rattle.std.proofs.Common.{◌≡◌, ◌≢◌, ◌⊎◌, ◌∙◌, ap, su
 use Rattle.std.proofs.lemmas.Bool.{cases_Bool, eqb-true, eq-eqb, ne_eqb, lt-ltb, le-ltb, or_from, not_from_true, not_from_false}
 use Rattle.std.specs.Prelude.{is_some}
 use Rattle.std.proofs.lemmas.Grind.{common_steps}
-use Rattle.fuse_codec.specs.Grammar.{max_transfer}
+use Rattle.plain_file.specs.Limits.{max_transfer}
 use Rattle.fuse_codec.specs.Opcodes.{number, opcode_of}
 use Rattle.fuse_codec.specs.Reading.{records_at, name_of, write_with, write_of, create_of, forgets_with, forgets_of, remove_with, remove_of, body_of, forget_of, message_with, message_as, message_after, message_of}
 use Rattle.fuse_codec.specs.declared.errors.BadRequest.{BadRequest}

@@ -8,6 +8,7 @@ use Rattle.std.proofs.lemmas.Nat.{and_le_r}
 use Rattle.std.proofs.lemmas.Grind.{common_steps}
 use Rattle.std.proofs.lemmas.List.{take_at}
 use Rattle.std.proofs.lemmas.List.Quantifiers.{position-Some}
+use Rattle.plain_file.specs.Limits.{max_transfer}
 use Rattle.fuse_wire.specs.Layout.{FitsParts}
 use Rattle.fuse_wire.specs.Records.{in_header_at, in_header_of, write_out}
 use Rattle.fuse_wire.specs.Attributes.{attr_rec, entry_out}
@@ -19,7 +20,7 @@ use Rattle.fuse_wire.specs.declared.records.InHeader.{InHeader}
 use Rattle.fuse_wire.specs.declared.records.ReadIn.{ReadIn}
 use Rattle.fuse_wire.specs.declared.records.WriteIn.{WriteIn}
 use Rattle.fuse_wire.proofs.RecordLaws.{cond_some, in_header_law}
-use Rattle.fuse_codec.specs.Grammar.{kind_of, header_of, asked, form_room, max_transfer, Spells}
+use Rattle.fuse_codec.specs.Grammar.{kind_of, header_of, asked, form_room, Spells}
 use Rattle.fuse_codec.specs.Opcodes.{number, reply_form}
 use Rattle.fuse_codec.specs.Replies.{form_of, reply_parts, is_reply, clean_reply}
 use Rattle.fuse_codec.specs.declared.messages.Message.{Message}

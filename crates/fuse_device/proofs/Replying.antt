@@ -3,6 +3,7 @@ use Rattle.std.proofs.Common.{◌≡◌, ◌^◌, ◌&&◌, sym, refl, arith, �
 use Rattle.std.specs.Prelude.{IfOk, unwrap_or}
 use Rattle.std.proofs.lemmas.Bool.{le-leb, ltb-false}
 use Rattle.std.proofs.lemmas.List.{length-take}
+use Rattle.plain_file.specs.Limits.{max_transfer}
 use Rattle.fuse_wire.specs.declared.errno.Errno.{Errno}
 use Rattle.fuse_wire.specs.declared.errno.Errno.TheVariants as errnos
 use Rattle.fuse_wire.specs.declared.records.WriteOut.{WriteOut}
@@ -13,7 +14,7 @@ use Rattle.fuse_wire.specs.declared.attributes.EntryOut.{EntryOut}
 use Rattle.fuse_wire.specs.declared.attributes.AttrOut.{AttrOut}
 use Rattle.fuse_wire.specs.declared.opens.OpenOut.{OpenOut}
 use Rattle.fuse_wire.specs.declared.inits.InitOut.{InitOut}
-use Rattle.fuse_codec.specs.Grammar.{kind_of, form_room, asked, max_transfer}
+use Rattle.fuse_codec.specs.Grammar.{kind_of, form_room, asked}
 use Rattle.fuse_codec.specs.Opcodes.{reply_form}
 use Rattle.fuse_codec.specs.Replies.{form_of, reply_parts, is_reply, HasForm, reply_len, answered}
 use Rattle.fuse_codec.specs.declared.messages.Message.{Message}

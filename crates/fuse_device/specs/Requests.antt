@@ -2,7 +2,7 @@
 use Rattle.std.specs.Prelude.{ℕ, ◌+◌, ◌-◌, ◌%◌, ◌^◌, ◌==◌, Bool, true, false, ◌||◌, ◌&&◌, not, nat_lt, List, [], ◌∷◌, length, codes, Option, Some, None, Ok, Err, if◌then◌else◌}
 use Rattle.std.specs.List.{list_all}
 use Rattle.std.specs.Str.{bytes_eq}
-use Rattle.fuse_codec.specs.Grammar.{max_transfer}
+use Rattle.plain_file.specs.Limits.{max_transfer}
 use Rattle.fuse_codec.specs.declared.messages.Message.{Message}
 use Rattle.fuse_codec.specs.declared.messages.Request.{Request}
 use Rattle.fuse_codec.specs.declared.messages.Request.TheVariants as asks

@@ -1,5 +1,6 @@
 ghost use Rattle.std.specs.Prelude.{◌≡◌, ◌<◌, ◌≤◌, ◌^◌, ℕ, length, true, Result, IsSome, IfOk, Some};
-ghost use Rattle.fuse_codec.specs.Grammar.{max_part, kind_of, is_bounded};
+ghost use Rattle.plain_file.specs.Limits.{max_part};
+ghost use Rattle.fuse_codec.specs.Grammar.{kind_of, is_bounded};
 ghost use Rattle.fuse_codec.specs.Opcodes.{reply_form};
 ghost use Rattle.fuse_codec.specs.Replies.{answered, form_of, HasForm};
 ghost use Rattle.fuse_codec.specs.ReplyReading.{reply_of, GivesReply};

@@ -1,7 +1,7 @@
 ghost use Rattle.std.specs.Prelude.{◌≡◌, ◌<◌, ◌≤◌, length};
+ghost use Rattle.plain_file.specs.Limits.{max_transfer};
 ghost use Rattle.fuse_codec.specs.declared.messages.Request.TheVariants as asks;
 ghost use Rattle.fuse_codec.specs.declared.replies.Reply.TheVariants as replies;
-ghost use Rattle.fuse_codec.specs.Grammar.{max_transfer};
 ghost use Rattle.guest_wire.specs.Wires.{boards, KeepsWire};
 ghost use Rattle.guest_wire.specs.Keeps.{KeepsBoards};
 ghost use Rattle.guest_wire.specs.Requests.{next_number, message, CanAsk, open_request, release_request, getattr_request, setattr_request, read_request, write_request, size_for, write_at};

@@ -1,5 +1,5 @@
 ghost use Rattle.std.specs.Prelude.{◌≡◌, ◌≤◌, [], length, true};
-ghost use Rattle.fuse_codec.specs.Grammar.{max_part};
+ghost use Rattle.plain_file.specs.Limits.{max_part};
 ghost use Rattle.guest_wire.specs.Wires.{boards, sending, world_at, CanSubmit, Honest, HasCause, KeepsWire};
 ghost use Rattle.guest_wire.specs.Keeps.{KeepsBoards};
 ghost use Rattle.guest_wire.specs.Kept.{Passes};

@@ -4,13 +4,14 @@ use Rattle.std.specs.Prelude.{filter}
 use Rattle.std.specs.List.{AllByRecursion, list_any}
 use Rattle.std.proofs.lemmas.Bool.Decides.{nat_tests}
 use Rattle.std.proofs.lemmas.List.Elements.{All-from_recursion}
+use Rattle.plain_file.specs.Limits.{max_part}
 use Rattle.vring.specs.declared.layouts.Layout.{Layout}
 use Rattle.vring.specs.declared.chains.Chain.{Chain}
 use Rattle.vring.specs.declared.faults.RingFault.{RingFault}
 use Rattle.vring.specs.declared.faults.RingFault.TheVariants as faults
 use Rattle.vring.specs.Bytes.{u16_at}
 use Rattle.vring.specs.Ring.{Finds}
-use Rattle.vring.specs.Chain.{max_part, ahead, descriptor_at, is_writable, has, reached, piece_at, fault_of, fault_at, first_fault, readable_of, writable_of, long_of, or_else, unless, chain_of, chain_at, LiesIn, ChainLiesIn}
+use Rattle.vring.specs.Chain.{ahead, descriptor_at, is_writable, has, reached, piece_at, fault_of, fault_at, first_fault, readable_of, writable_of, long_of, or_else, unless, chain_of, chain_at, LiesIn, ChainLiesIn}
 
 passed : (b : Bool) (f : RingFault) (x : Option RingFault) → cond b (Some f) x ≡ None → (b ≡ false) × (x ≡ None)
 passed true f x e = cc

@@ -5,13 +5,14 @@ use Rattle.std.proofs.lemmas.Bool.Decides.{nat_tests}
 use Rattle.std.proofs.lemmas.Grind.{common_steps}
 use Rattle.std.proofs.lemmas.List.{drop-drop, append-nil, take_all}
 use Rattle.std.proofs.lemmas.Nat.{from_le_bytes-to_le_bytes_2, from_le_bytes-to_le_bytes_4, from_le_bytes-to_le_bytes_8}
+use Rattle.plain_file.specs.Limits.{max_part}
 use Rattle.vring.specs.declared.layouts.Layout.{Layout}
 use Rattle.vring.specs.declared.chains.Piece.{Piece}
 use Rattle.vring.specs.declared.descriptors.Descriptor.{Descriptor}
 use Rattle.vring.specs.Bytes.{u16_at, u32_at, u64_at, put_at}
 use Rattle.vring.specs.Spelling.{descriptor_bytes}
 use Rattle.vring.specs.Pieces.{total, bytes_of, gathered, scattered}
-use Rattle.vring.specs.Chain.{max_part, descriptor_at, reached, is_writable, piece_at, fault_of, fault_at, first_fault, readable_of, writable_of, chain_of, ahead, chain_at}
+use Rattle.vring.specs.Chain.{descriptor_at, reached, is_writable, piece_at, fault_of, fault_at, first_fault, readable_of, writable_of, chain_of, ahead, chain_at}
 use Rattle.vring.specs.Ring.{RingView, next_index, used_pushed}
 use Rattle.vring.specs.Driver.{DriverView, IsQueueSize, IsOffer, offered_chain, offered_room, readable_at, writable_at, driver_layout, offered_in, used_at, written_in}
 use Rattle.vring.proofs.PutLemmas.{length-put_at, read_before, read_behind, read_inside, take_less}

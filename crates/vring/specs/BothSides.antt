@@ -1,9 +1,10 @@
 -- What one side of a ring writes is what the other reads, whatever stood in the memory before.
 use Rattle.std.specs.Prelude.{◌≡◌, ℕ, ◌^◌, ◌<◌, ◌≤◌, true, List, length, Some, Ok}
+use Rattle.plain_file.specs.Limits.{max_part}
 use Rattle.vring.specs.declared.chains.Piece.{Piece}
 use Rattle.vring.specs.Layout.{is_allowed}
 use Rattle.vring.specs.Pieces.{total, gathered, scattered}
-use Rattle.vring.specs.Chain.{chain_at, max_part}
+use Rattle.vring.specs.Chain.{chain_at}
 use Rattle.vring.specs.Ring.{RingView, used_pushed}
 use Rattle.vring.specs.Driver.{DriverView, IsQueueSize, IsOffer, driver_layout, offered_in, offered_chain, offered_room, used_at, written_in}
 

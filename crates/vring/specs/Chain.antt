@@ -7,12 +7,9 @@ use Rattle.vring.specs.declared.chains.Piece.{Piece}
 use Rattle.vring.specs.declared.chains.Chain.{Chain}
 use Rattle.vring.specs.declared.faults.RingFault.{RingFault}
 use Rattle.vring.specs.declared.faults.RingFault.TheVariants as faults
+use Rattle.plain_file.specs.Limits.{max_part}
 use Rattle.vring.specs.Bytes.{u16_at, u32_at, u64_at}
 use Rattle.vring.specs.Pieces.{total}
-
--- the most bytes of a chain's readable part, and of its writable part
-abbrev pub max_part : ℕ
-max_part = 1052672
 
 -- the flags have a bit: NEXT is 1, WRITE is 2, INDIRECT is 4
 abbrev pub has : ℕ → ℕ → Bool

@@ -1,6 +1,7 @@
 -- What the driver's side keeps, where its memory has what, and what its calls do.
 use Rattle.std.specs.Prelude.{◌≡◌, ℕ, ◌+◌, ◌*◌, ◌%◌, ◌==◌, ◌≤◌, ◌<◌, ◌^◌, Bool, true, false, ◌&&◌, nat_le, List, [], ◌∷◌, length, take, drop, Option, Some, None, Result, Ok, Err, if◌then◌else◌}
 use Rattle.std.specs.Int.{w16, to_le_bytes, is_power_of_two}
+use Rattle.plain_file.specs.Limits.{max_part}
 use Rattle.vring.specs.declared.layouts.Layout.{Layout}
 use Rattle.vring.specs.declared.chains.Piece.{Piece}
 use Rattle.vring.specs.declared.chains.Chain.{Chain}
@@ -8,7 +9,6 @@ use Rattle.vring.specs.declared.driver_side.Used.{Used}
 use Rattle.vring.specs.declared.driver_side.BadUsed.{BadUsed}
 use Rattle.vring.specs.Bytes.{put_at, u16_at, u32_at}
 use Rattle.vring.specs.Spelling.{descriptor_bytes}
-use Rattle.vring.specs.Chain.{max_part}
 use Rattle.vring.specs.Ring.{next_index}
 
 -- a driver's side as its calls see it

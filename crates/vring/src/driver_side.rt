@@ -1,5 +1,5 @@
 ghost use Rattle.std.specs.Prelude.{◌≡◌, ◌+◌, ◌*◌, ◌^◌, ◌<◌, ◌≤◌, length, replicate, Some, None, IfOk};
-ghost use Rattle.vring.specs.Chain.{max_part};
+ghost use Rattle.plain_file.specs.Limits.{max_part};
 ghost use Rattle.vring.specs.Ring.{next_index};
 ghost use Rattle.vring.specs.Driver.{DriverView, IsQueueSize, driver_layout, is_expected, offered_in, used_at, Takes, written_in};
 

@@ -35,7 +35,5 @@ pub use laws::{
     powers_of_two_are_queue_sizes, pushed_is_taken, room_is_offered, scattered_is_written,
 };
 pub use memory::GuestMem;
+pub use plain_file::MAX_PART;
 pub use transfers::{gather, gather_into, scatter};
-
-/// The most bytes of a chain's readable part, and of its writable part: 1 MiB and 4 KiB.
-pub const MAX_PART: u32 = 1_052_672;

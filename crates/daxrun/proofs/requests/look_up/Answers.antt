@@ -1,12 +1,12 @@
 use Rattle.std.proofs.Common.{◌∙◌, ap, ◌+◌}
 use Rattle.fuse_wire.specs.declared.attributes.EntryOut.{EntryOut}
-use Rattle.fuse_device.proofs.Servable.{servable_serves}
+use Rattle.guest_wire.proofs.Serving.{CanAsk-servable}
 use Rattle.daxrun.proofs.Asking.{finds, done, done_or_memory, entry_is, live_again, same_place}
 use Rattle.fuse_device.specs.State.{looked_up}
 use Rattle.daxrun.proofs.requests.look_up.Goals as goal
 
 pub lookup-requires : goal.lookup-requires
-lookup-requires g c = record { boards = λ _. servable_serves _ _ _ _ c.requires.live.servable }
+lookup-requires g c = record { boards = CanAsk-servable _ _ _ c.requires.live.whole c.requires.live.servable }
 
 pub finish-requires : goal.finish-requires
 finish-requires g c =
@@ -14,10 +14,10 @@ finish-requires g c =
     done_or_memory _ _ _ _ _ (finds _ _ _ _ _ _ there.0 _ _ _ c.lookup.ensures.answer c.requires.live c.requires.started there.1 there.2)
 
 pub returns-in_err-entry-clause-live : goal.returns-in_err-entry-clause-live
-returns-in_err-entry-clause-live g c = live_again _ _ _ _ _ _ _ _ _ c.lookup.ensures.answer c.lookup.ensures.wire c.requires.live
+returns-in_err-entry-clause-live g c = live_again _ _ _ _ _ _ _ _ _ c.lookup.ensures.answer c.lookup.ensures.wire c.lookup.ensures.boards c.requires.live
 
 pub returns-clause-live : goal.returns-clause-live
-returns-clause-live g c = live_again _ _ _ _ _ _ _ _ _ c.lookup.ensures.answer c.lookup.ensures.wire c.requires.live
+returns-clause-live g c = live_again _ _ _ _ _ _ _ _ _ c.lookup.ensures.answer c.lookup.ensures.wire c.lookup.ensures.boards c.requires.live
 
 pub returns-clause-node : goal.returns-clause-node
 returns-clause-node g c =

@@ -2,21 +2,21 @@ use Rattle.std.proofs.Common.{ap, sym, subst}
 use Rattle.fuse_device.specs.State.{State, World, with_open}
 use Rattle.fuse_device.specs.OpenFiles.{HasOpenFile}
 use Rattle.fuse_device.proofs.OpenHandles.{opened_is_open}
-use Rattle.fuse_device.proofs.Servable.{servable_serves}
+use Rattle.guest_wire.proofs.Serving.{CanAsk-servable}
 use Rattle.daxrun.proofs.Asking.{opens, done, done_or_memory, live_again, opened_is}
 use Rattle.daxrun.proofs.requests.open_file.Goals as goal
 
 pub open_file-requires : goal.open_file-requires
-open_file-requires g c = record { boards = λ _. servable_serves _ _ _ _ c.requires.live.servable }
+open_file-requires g c = record { boards = CanAsk-servable _ _ _ c.requires.live.whole c.requires.live.servable }
 
 pub finish-requires : goal.finish-requires
 finish-requires g c = done_or_memory _ _ _ _ _ (opens _ _ _ _ _ _ _ _ _ c.open_file.ensures.answer c.requires.live c.requires.started c.requires.known c.requires.made c.requires.may)
 
 pub returns-in_err-fh-clause-live : goal.returns-in_err-fh-clause-live
-returns-in_err-fh-clause-live g c = live_again _ _ _ _ _ _ _ _ _ c.open_file.ensures.answer c.open_file.ensures.wire c.requires.live
+returns-in_err-fh-clause-live g c = live_again _ _ _ _ _ _ _ _ _ c.open_file.ensures.answer c.open_file.ensures.wire c.open_file.ensures.boards c.requires.live
 
 pub returns-clause-live : goal.returns-clause-live
-returns-clause-live g c = live_again _ _ _ _ _ _ _ _ _ c.open_file.ensures.answer c.open_file.ensures.wire c.requires.live
+returns-clause-live g c = live_again _ _ _ _ _ _ _ _ _ c.open_file.ensures.answer c.open_file.ensures.wire c.open_file.ensures.boards c.requires.live
 
 pub returns-clause-handle : goal.returns-clause-handle
 returns-clause-handle g c =
