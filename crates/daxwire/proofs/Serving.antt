@@ -4,7 +4,9 @@ use Rattle.std.proofs.lemmas.List.{length-replicate}
 use Rattle.fuse_device.specs.Promises.{world}
 use Rattle.fuse_device.specs.State.{State, World, new_state}
 use Rattle.fuse_device.specs.Steps.{device_step}
-use Rattle.fuse_device.proofs.Mapped.{NamesFiles-device_step, NamesFiles-new_map}
+use Rattle.fuse_device.proofs.Mapped.{NamesFiles-device_step}
+use Rattle.page_map.proofs.Names.{NamesFiles-new_map}
+use Rattle.page_map.specs.Board.{NamesFiles}
 use Rattle.fuse_device.proofs.Servable.{IsServable-device_step, servable_at_start}
 use Rattle.page_map.specs.Board.{MapView}
 use Rattle.page_map.specs.Plain.{new_map}
@@ -12,7 +14,7 @@ use Rattle.plain_file.specs.Board.{BoardView, applied, entry_of, file_at, with_o
 use Rattle.plain_file.specs.Plain.{new_board}
 use Rattle.plain_file.specs.declared.operations.First.{First}
 use Rattle.plain_file.specs.declared.refusals.Memory.{Memory}
-use Rattle.window_access.specs.Access.{CanAccess, NamesFiles, Piece, Stores, all_applied, pieces}
+use Rattle.window_access.specs.Access.{CanAccess, Piece, Stores, all_applied, pieces}
 use Rattle.window_access.specs.declared.refusals.WindowRefusal.{WindowRefusal}
 use Rattle.window_access.specs.declared.refusals.WindowRefusal.TheVariants as refusals
 use Rattle.window_access.proofs.Names.{can_access_after_store}

@@ -7,7 +7,8 @@ use Rattle.fuse_device.specs.Steps.{Step, device_step}
 use Rattle.page_map.specs.Plain.{new_map}
 use Rattle.plain_file.specs.Plain.{new_board}
 use Rattle.plain_file.specs.declared.operations.First.{First}
-use Rattle.window_access.specs.Access.{NamesFiles, load_refusal, loaded, store_refusal, stored}
+use Rattle.page_map.specs.Board.{NamesFiles}
+use Rattle.window_access.specs.Access.{load_refusal, loaded, store_refusal, stored}
 use Rattle.window_access.specs.declared.refusals.WindowRefusal.{WindowRefusal}
 use Rattle.window_access.specs.declared.refusals.WindowRefusal.TheVariants as refusals
 use Rattle.daxwire.specs.declared.frames.Front.{Front}

@@ -27,7 +27,7 @@ use Rattle.fuse_wire.specs.Opens.{open_in_of, create_in_at, release_in_of, flush
 use Rattle.fuse_wire.specs.Inits.{init_in_of}
 use Rattle.fuse_wire.specs.Forgets.{forget_in_of, forget_one_at}
 use Rattle.fuse_wire.specs.Mappings.{setup_in_of, remove_one_at}
-use Rattle.page_map.specs.Board.{MapView}
+use Rattle.page_map.specs.Board.{MapView, NamesFiles}
 use Rattle.plain_file.specs.Board.{BoardView, may_apply}
 use Rattle.plain_file.specs.declared.operations.Answer.{Answer}
 use Rattle.plain_file.specs.declared.refusals.Memory.{Memory}
@@ -36,7 +36,7 @@ use Rattle.fuse_device.specs.State.{State, World, is_made}
 use Rattle.fuse_device.specs.Checks.{Outcome, is_known, refuse}
 use Rattle.fuse_device.specs.Requests.{done, applies, attr_of, resizes, getattr, setattr, sync, read, write, setup, remove, answered, is_init, is_forget, served}
 use Rattle.fuse_device.specs.Steps.{Step, is_forget_number, header_at, judged_message, judged, replied, forgot, device_step}
-use Rattle.fuse_device.specs.Promises.{CanServe, IsServable, NamesFiles, world}
+use Rattle.fuse_device.specs.Promises.{CanServe, IsServable, world}
 use Rattle.fuse_device.specs.DataSteps.{is_data, is_on_file, is_file_body, is_body_on_file, file_of, named_in, file_in, named_file, CanServeData, CanStepData, data_judged_message, data_judged, data_step}
 use Rattle.fuse_device.proofs.Servable.{Serves, refuse_keeps, judged_keeps, step_keeps, not_false}
 use Rattle.fuse_device.proofs.Mapped.{AreNamed, Names, refuse_names, judged_names, step_names}

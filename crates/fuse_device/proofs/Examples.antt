@@ -1,7 +1,7 @@
 -- Small examples whose answers are known: whole chains with their bytes, and runs of requests.
-use Rattle.std.proofs.Common.{◌≡◌, refl, ℕ, ◌-◌, List, [], ◌∷◌, ◌++◌, map, replicate, true, false, Option, Some, None}
+use Rattle.std.proofs.Common.{◌≡◌, refl, ℕ, ◌-◌, List, [], ◌∷◌, ◌++◌, length, map, replicate, true, false, Option, Some, None}
 use Rattle.std.specs.Prelude.{Ok, Err, slice_index, codes, option_map}
-use Rattle.plain_file.specs.declared.operations.Way.TheVariants.{Req}
+use Rattle.plain_file.specs.Plain.{plain_board, first_mark, no_hands, new_file}
 use Rattle.plain_file.specs.Board.{BoardView, FileView, file_at, file_may_apply, file_answer, bytes_now}
 use Rattle.plain_file.specs.File.{answer, after}
 use Rattle.plain_file.specs.History.{bytes, after_all}
@@ -35,11 +35,11 @@ use Rattle.fuse_device.specs.Steps.{Step, device_step, errno_of, reply_to, judge
 
 -- a file of so many equal bytes on a plain board
 abbrev file_of : ℕ → ℕ → FileView
-file_of size fill = record { first = record { size = size; fill = fill }; history = []; own = []; ready = true; barred = false }
+file_of size fill = new_file (record { size = size; fill = fill })
 
 -- a plain board of files
 abbrev files_of : List FileView → BoardView
-files_of files = record { guest = 0; mark = record { call = 0; way = Req }; plain = true; over = None; files = files }
+files_of files = plain_board 0 first_mark (no_hands (length files)) files
 
 -- a started device with a window of so many pages, files of these names, and a board
 abbrev world_of : ℕ → List (List ℕ) → List FileView → World

@@ -19,7 +19,7 @@ use Rattle.fuse_wire.specs.declared.mappings.SetupIn.{SetupIn}
 use Rattle.plain_file.specs.Board.{file_at, file_answer, may_apply, applied}
 use Rattle.plain_file.specs.declared.operations.Answer.{Answer}
 use Rattle.plain_file.specs.declared.operations.Op.{Op}
-use Rattle.page_map.specs.Board.{MapView, wiped, painted, is_whole}
+use Rattle.page_map.specs.Board.{MapView, wiped, painted, is_whole, NamesFiles}
 use Rattle.page_map.specs.Window.{is_within, page_of}
 use Rattle.page_map.specs.Plain.{new_map}
 use Rattle.page_map.specs.declared.pages.Page.{Page}
@@ -30,9 +30,10 @@ use Rattle.fuse_device.specs.Entries.{session_flags, init_out_with}
 use Rattle.fuse_device.specs.Checks.{Outcome, is_known, is_handle, is_past, refuse}
 use Rattle.fuse_device.specs.Requests.{done, applies, attr_of, opens, closes, found, unlinked, opens_entry, makes_entry, created, resizes, span_of, is_bad_setup, init, destroy, getattr, setattr, open_file, open_dir, release, release_dir, sync, fallocate, read, write, lookup, unlink, create, forget, batch_forget, read_dir, setup, remove, answered, served}
 use Rattle.fuse_device.specs.Steps.{Step, judged_message, judged, forgot, replied, header_at, is_forget_number, device_step}
-use Rattle.fuse_device.specs.Promises.{IsServable, NamesFiles}
+use Rattle.page_map.proofs.Names.{NamesFiles-wiped, NamesFiles-painted}
+use Rattle.fuse_device.specs.Promises.{IsServable}
 use Rattle.fuse_device.proofs.Clears.{first_of_both, rest_of_both, wiped_len, whole_window}
-use Rattle.fuse_device.proofs.Servable.{not_false, is_some, is_whole_setup, forgotten_same, all_forgotten_same}
+use Rattle.fuse_device.proofs.Servable.{not_false, is_positive, is_whole_setup, forgotten_same, all_forgotten_same}
 
 -- the window after an outcome maps files that are made then
 pub record Names (o : Outcome) : Type 0 where
@@ -49,58 +50,20 @@ pub record AreNamed (w : World) : Type 0 where
 grown : (few more : ℕ) (v : MapView) → few ≤ more → NamesFiles few v → NamesFiles more v
 grown few more v h k page p e = let both = k page p e in (both.0, omega (arith, both.1, h))
 
--- what is there at a page, as far as it is held
-abbrev as_mapped : Option (Option Page) → Option Page
-as_mapped o = unwrap_or o None
-
--- pages that are cleared map nothing, the others what they did
-wiped_names : (count : ℕ) (v : MapView) (moffset len : ℕ) → is_whole (length v.table) moffset len ≡ true → NamesFiles count v → NamesFiles count (wiped v moffset len)
-wiped_names count v moffset len whole h page p e = elim (cases_Bool (is_within moffset len page)) [
-  | inl within ↦
-      let none : None ≡ Some p = sym (ap as_mapped (held_at-wiped v moffset len page whole within)) ∙ e in
-      absurd cc
-  | inr other ↦ h page p (sym (ap as_mapped (held_at-wiped_other v moffset len page whole other)) ∙ e)
-]
-
--- pages that are set map the span's node
-painted_names : (count : ℕ) (v : MapView) (s : Span) → is_whole (length v.table) s.moffset s.len ≡ true → 2 ≤ s.node → s.node - 2 < count → NamesFiles count v → NamesFiles count (painted v s)
-painted_names count v s whole node known h page p e = elim (cases_Bool (is_within s.moffset s.len page)) [
-  | inl within ↦
-      let here : Some (page_of s page) ≡ Some p = sym (ap as_mapped (held_at-painted v s page whole within)) ∙ e in
-      let same : page_of s page ≡ p = cc in
-      let n : s.node ≡ p.node = ap (λ (q : Page). q.node) same in
-      (rw (sym n) node, rw (sym n) known)
-  | inr other ↦ h page p (sym (ap as_mapped (held_at-painted_other v s page whole other)) ∙ e)
-]
-
-abbrev none_page : Option Page
-none_page = None
-
--- no page of a new map is mapped
-nothing_mapped : (pages page : ℕ) → get_or (replicate pages none_page) page none_page ≡ none_page
-nothing_mapped zero page = refl
-nothing_mapped (suc pages) zero = refl
-nothing_mapped (suc pages) (suc page) = nothing_mapped pages page
-
-pub NamesFiles-new_map : (count pages : ℕ) → NamesFiles count (new_map pages)
-NamesFiles-new_map count pages page p e =
-    let none : None ≡ Some p = sym (mapped_at-plain (replicate pages none_page) page ∙ nothing_mapped pages page) ∙ e in
-    absurd cc
-
 all_cleared_names : (ones : List RemoveOne) (v : MapView) (count pages : ℕ) → length v.table ≡ pages → list_all (λ one. is_whole pages one.moffset one.len) ones ≡ true → NamesFiles count v → NamesFiles count (all_cleared v ones)
 all_cleared_names [] v count pages e whole h = h
 all_cleared_names (one ∷ ones) v count pages e whole h =
     let first = first_of_both (is_whole pages one.moffset one.len) (list_all (λ o. is_whole pages o.moffset o.len) ones) whole in
     let rest = rest_of_both (is_whole pages one.moffset one.len) (list_all (λ o. is_whole pages o.moffset o.len) ones) whole in
     all_cleared_names ones (wiped v one.moffset one.len) count pages (wiped_len v (wiped v one.moffset one.len) one.moffset one.len pages e first refl ∙ e) rest
-    (wiped_names count v one.moffset one.len (rw e first) h)
+    (NamesFiles-wiped count v one.moffset one.len (rw e first) h)
 
 if_map : (b : Bool) (x y : MapView) (count : ℕ) → NamesFiles count x → (b ≡ false → NamesFiles count y) → NamesFiles count (if b then x else y)
 if_map true x y count h k = h
 if_map false x y count h k = k refl
 
 cleared_names : (v : MapView) (count pages : ℕ) → length v.table ≡ pages → NamesFiles count v → NamesFiles count (cleared_window pages v)
-cleared_names v count pages e h = if_map (pages == 0) v (wiped v 0 (4096 * pages)) count h (λ some. wiped_names count v 0 (4096 * pages) (rw e (whole_window pages (is_some pages some))) h)
+cleared_names v count pages e h = if_map (pages == 0) v (wiped v 0 (4096 * pages)) count h (λ some. NamesFiles-wiped count v 0 (4096 * pages) (rw e (whole_window pages (is_positive pages some))) h)
 
 -- ---- outcomes
 
@@ -189,7 +152,7 @@ setup_names w node r h =
     refuse_names_by (is_bad_setup w.state.pages r) EINVAL w may h (λ good.
     refuse_names (not ((grants w).may_set (span_of node r))) EBUSY w set h (
     let made = known_file w.state node known other in
-    record { after = painted_names (length w.state.made) w.map (span_of node r) (rw h.pages (is_whole_setup w.state.pages r good)) made.0 made.1 h.named }
+    record { after = NamesFiles-painted (length w.state.made) w.map (span_of node r) (rw h.pages (is_whole_setup w.state.pages r good)) made.0 made.1 h.named }
     ))))))
 
 remove_names : (w : World) (ones : List RemoveOne) → AreNamed w → Names (remove w ones)

@@ -37,7 +37,7 @@ use Rattle.fuse_device.specs.State.{State, World, no_made, is_made, made_at, has
 use Rattle.fuse_device.specs.declared.tables.Opened.{Opened}
 use Rattle.fuse_device.specs.Checks.{Outcome, is_known, is_handle, may_open}
 use Rattle.fuse_device.specs.Entries.{session_flags, init_out_with, file_attr, entry_of, open_out_of}
-use Rattle.fuse_device.specs.Requests.{bytes_reply, init, lookup, open_file, read, write, answered, is_init, is_forget, served}
+use Rattle.fuse_device.specs.Requests.{bytes_reply, seen_size, init, lookup, open_file, read, write, answered, is_init, is_forget, served}
 use Rattle.fuse_device.specs.Steps.{header_at, is_forget_number, wanted_room, reply_to, judged_message, replied, device_step}
 use Rattle.fuse_device.specs.OpenFiles.{HasOpenFile, Succeeds}
 use Rattle.fuse_device.proofs.Allowed.{may_apply-read, may_apply-write}
@@ -175,7 +175,7 @@ links_fit true = omega arith
 links_fit false = omega arith
 
 pub lookup_succeeds : (w : World) (name : List ℕ) (i : ℕ) → w.state.started ≡ true → named w.state name ≡ Some i → length w.state.made ≤ 16 → size_of (file_at w.files i) ≤ max_file
-    → Succeeds w 1 (asks.Lookup name) (gives.Entry (entry_of w.state w.files i)) (record w { state = looked_up w.state i })
+    → Succeeds w 1 (asks.Lookup name) (gives.Entry (entry_of w.state w.files i)) (record (seen_size w i) { state = looked_up w.state i })
 unfolding answered lookup is_known named file_attr is_init is_forget kind_of reply_form form_of is_reply reply_parts entry_out attr_rec FitsParts
 lookup_succeeds w name i started found few small =
     let within = (position-Some (has_name name) w.state.made i no_made found).0 in

@@ -1,5 +1,5 @@
 -- Boards over which any request can be served stay so, whatever is asked.
-use Rattle.std.proofs.Common.{◌≡◌, ◌∙◌, sym, refl, arith, ◌<◌, ◌≤◌, ℕ, ◌+◌, ◌-◌, ◌*◌, ◌==◌, Bool, true, false, true≢false, IsTrue, List, [], ◌∷◌, ◌++◌, length, map, get_or, set, length-set, replicate, Option, Some, None, Result, Ok, Err, OnOk, OnErr, inl, inr, not, nat_lt, ◌||◌, if◌then◌else◌}
+use Rattle.std.proofs.Common.{◌≡◌, ◌∙◌, sym, refl, arith, ◌<◌, ◌≤◌, ℕ, ◌+◌, ◌-◌, ◌*◌, ◌==◌, Bool, true, false, true≢false, IsTrue, List, [], ◌∷◌, ◌++◌, length, map, get_or, set, length-set, replicate, Option, Some, None, is_some, Result, Ok, Err, OnOk, OnErr, inl, inr, not, nat_lt, ◌||◌, if◌then◌else◌}
 use Rattle.std.proofs.lemmas.Bool.{cases_eq}
 use Rattle.std.proofs.lemmas.Grind.{common_steps}
 use Rattle.std.proofs.lemmas.List.{length-map, get_or-map, length-replicate, length-append, get_or-set_same, get_or-set_other}
@@ -17,8 +17,9 @@ use Rattle.fuse_wire.specs.declared.forgets.ForgetOne.{ForgetOne}
 use Rattle.fuse_wire.specs.declared.inits.InitIn.{InitIn}
 use Rattle.fuse_wire.specs.declared.mappings.RemoveOne.{RemoveOne}
 use Rattle.fuse_wire.specs.declared.mappings.SetupIn.{SetupIn}
-use Rattle.plain_file.specs.Board.{FileView, BoardView, IsReady, no_file, file_at, with_own, entry_of, file_answer, may_apply, applied}
-use Rattle.plain_file.specs.Plain.{new_board, own_file}
+use Rattle.plain_file.specs.Board.{FileView, BoardView, IsReady, no_file, file_at, size_of, with_note, with_own, entry_of, file_answer, may_apply, applied}
+use Rattle.plain_file.specs.Plain.{new_board}
+use Rattle.plain_file.specs.Plain as plain
 use Rattle.plain_file.specs.declared.operations.First.{First}
 use Rattle.plain_file.specs.declared.operations.Answer.{Answer}
 use Rattle.plain_file.specs.declared.operations.Op.{Op}
@@ -32,7 +33,7 @@ use Rattle.fuse_device.specs.State.{State, World, new_state, grants, made_at, co
 use Rattle.fuse_device.specs.Entries.{session_flags, init_out_with}
 use Rattle.fuse_device.specs.declared.tables.MadeFile.{MadeFile}
 use Rattle.fuse_device.specs.Checks.{Outcome, may_open, refuse, if_may_open}
-use Rattle.fuse_device.specs.Requests.{done, applies, attr_of, opens, closes, found, unlinked, opens_entry, makes_entry, created, resizes, forgotten, all_forgotten, span_of, is_bad_setup, init, destroy, getattr, setattr, open_file, open_dir, release, release_dir, sync, fallocate, read, write, lookup, unlink, create, forget, batch_forget, read_dir, setup, remove, answered, served}
+use Rattle.fuse_device.specs.Requests.{done, applies, attr_of, opens, closes, seen_size, found, unlinked, opens_entry, makes_entry, created, resizes, forgotten, all_forgotten, span_of, is_bad_setup, init, destroy, getattr, setattr, open_file, open_dir, release, release_dir, sync, fallocate, read, write, lookup, unlink, create, forget, batch_forget, read_dir, setup, remove, answered, served}
 use Rattle.fuse_device.specs.Steps.{Step, judged_message, judged, forgot, replied, header_at, is_forget_number, device_step}
 use Rattle.fuse_device.specs.Promises.{IsServable, CanServe, CanStep, Needs, world}
 use Rattle.fuse_device.proofs.Clears.{first_of_both, rest_of_both, wiped_len, painted_len, whole_window}
@@ -67,12 +68,12 @@ made_keeps : (w : World) (i : ℕ) (f : MadeFile) → IsServable w → IsServabl
 made_keeps w i f h = state_keeps w (with_made w.state i f) h refl (rw (length-set w.state.made i f) h.few)
 
 -- one place of a list is changed, and what holds at each place still does
-everywhere-set : {A : Type 0} (P : A → Type 0) (xs : List A) (i : ℕ) (x d : A) → P x → ((k : ℕ) → k < length xs → P (get_or xs k d))
+everywhere-set : {A : Type 0} (P : A → Type 0) (xs : List A) (i : ℕ) (x d : A) → (i < length xs → P x) → ((k : ℕ) → k < length xs → P (get_or xs k d))
     → (k : ℕ) → k < length (set xs i x) → P (get_or (set xs i x) k d)
 everywhere-set P xs i x d one all k within =
     let inside : k < length xs = rw (length-set xs i x) at within in
     elim (cases_eq k i) [
-      | inl same ↦ rw (same, get_or-set_same xs i x d (rw same at inside)) one
+      | inl same ↦ rw (same, get_or-set_same xs i x d (rw same at inside)) (one (rw same at inside))
       | inr other ↦ rw (get_or-set_other xs i k x d other) (all k inside)
     ]
 
@@ -81,11 +82,29 @@ files_keeps : (w : World) (file : ℕ) (op : Op) → IsServable w → IsServable
 files_keeps w file op h = record {
   plain = h.plain;
   enough = rw (length-set w.files.files file (with_own w.files.plain (entry_of w.files op) (file_at w.files file))) h.enough;
-  ready = everywhere-set (λ (f : FileView). IsTrue f.ready) w.files.files file (with_own w.files.plain (entry_of w.files op) (file_at w.files file)) no_file h.plain h.ready;
+  ready = everywhere-set (λ (f : FileView). IsTrue f.ready) w.files.files file (with_own w.files.plain (entry_of w.files op) (file_at w.files file)) no_file (λ within. h.plain) h.ready;
   few = h.few;
   free = h.free;
   pages = h.pages;
 }
+
+-- files after one of them was looked at
+if_both : {A : Type 0} (b : Bool) (P : A → Type 0) (x y : A) → P x → P y → P (if b then x else y)
+if_both true P x y h k = h
+if_both false P x y h k = k
+
+size_keeps : (w : World) (file : ℕ) → IsServable w → IsServable (seen_size w file)
+size_keeps w file h =
+    let f = with_note (size_of (file_at w.files file)) (file_at w.files file) in
+    let ready = everywhere-set (λ (g : FileView). IsTrue g.ready) w.files.files file f no_file (λ within. h.ready file within) h.ready in
+    record {
+      plain = h.plain;
+      enough = if_both (is_some w.files.over) (λ (xs : List FileView). 16 ≤ length xs) (set w.files.files file f) w.files.files (rw (length-set w.files.files file f) h.enough) h.enough;
+      ready = if_both (is_some w.files.over) (λ (xs : List FileView). (k : ℕ) → k < length xs → IsTrue (get_or xs k no_file).ready) (set w.files.files file f) w.files.files ready h.ready;
+      few = h.few;
+      free = h.free;
+      pages = h.pages;
+    }
 
 applies_keeps : (w : World) (node : ℕ) (op : Op) (reply : Answer → Reply) → IsServable w → Serves (applies w node op reply)
 applies_keeps w node op reply h =
@@ -130,11 +149,11 @@ if_plain : (b : Bool) (x y : MapView) → y.plain ≡ x.plain → (if b then x e
 if_plain true x y h = refl
 if_plain false x y h = h
 
-pub is_some : (n : ℕ) → (n == 0) ≡ false → 0 < n
-is_some n h = grind (arith, common_steps, h)
+pub is_positive : (n : ℕ) → (n == 0) ≡ false → 0 < n
+is_positive n h = grind (arith, common_steps, h)
 
 cleared_len : (v : MapView) (pages : ℕ) → length v.table ≡ pages → length (cleared_window pages v).table ≡ pages
-cleared_len v pages h = if_len (pages == 0) v (wiped v 0 (4096 * pages)) pages h (λ e. wiped_len v (wiped v 0 (4096 * pages)) 0 (4096 * pages) pages h (whole_window pages (is_some pages e)) refl ∙ h)
+cleared_len v pages h = if_len (pages == 0) v (wiped v 0 (4096 * pages)) pages h (λ e. wiped_len v (wiped v 0 (4096 * pages)) 0 (4096 * pages) pages h (whole_window pages (is_positive pages e)) refl ∙ h)
 
 cleared_plain : (v : MapView) (pages : ℕ) → (cleared_window pages v).plain ≡ v.plain
 cleared_plain v pages = if_plain (pages == 0) v (wiped v 0 (4096 * pages)) refl
@@ -171,14 +190,14 @@ closes_keeps w fh h = record { after = state_keeps w (without_open w.state fh) h
 
 found_keeps : (i : Option ℕ) (w : World) → IsServable w → Serves (found i w)
 found_keeps None w h = record { after = h }
-found_keeps (Some i) w h = record { after = made_keeps w i (counted_up (made_at w.state (i + 2))) h }
+found_keeps (Some i) w h = record { after = made_keeps (seen_size w i) i (counted_up (made_at w.state (i + 2))) (size_keeps w i h) }
 
 unlinked_keeps : (i : Option ℕ) (w : World) → IsServable w → Serves (unlinked i w)
 unlinked_keeps None w h = record { after = h }
 unlinked_keeps (Some i) w h = record { after = made_keeps w i (without_name (made_at w.state (i + 2))) h }
 
 entry_keeps : (w : World) (i : ℕ) → IsServable w → Serves (opens_entry w i)
-entry_keeps w i h = record { after = sized_keeps w (with_open (looked_up w.state i) (i + 2)) h (refl, length-set w.state.made i (counted_up (made_at w.state (i + 2)))) }
+entry_keeps w i h = record { after = sized_keeps (seen_size w i) (with_open (looked_up w.state i) (i + 2)) (size_keeps w i h) (refl, length-set w.state.made i (counted_up (made_at w.state (i + 2)))) }
 
 new_keeps : (w : World) (name : List ℕ) → IsServable w → length w.state.made < 16 → Serves (makes_entry w name)
 new_keeps w name h few =
@@ -345,14 +364,14 @@ servable_steps s files map readable h m e = servable_serves s files map m.body h
 -- files on which nothing was done yet are ready
 ready-new_board : (guest : ℕ) (firsts : List First) → (file : ℕ) → file < length (new_board guest firsts).files → IsReady (new_board guest firsts) file
 ready-new_board guest firsts file within =
-    let inside : file < length firsts = rw (length-map firsts (λ (first : First). own_file first [])) at within in
-    rw (get_or-map (λ (first : First). own_file first []) firsts file (record { size = 0; fill = 0 }) no_file inside) refl
+    let inside : file < length firsts = rw (length-map firsts plain.new_file) at within in
+    rw (get_or-map plain.new_file firsts file (record { size = 0; fill = 0 }) no_file inside) refl
 
 -- a device on which nothing was done yet, with enough files of its own
 pub servable_at_start : (guest pages : ℕ) (names : List (List ℕ)) (firsts : List First) → length names ≤ 16 → 16 ≤ length firsts → IsServable (world (new_state pages names) (new_board guest firsts) (new_map pages))
 servable_at_start guest pages names firsts few enough = record {
   plain = refl;
-  enough = rw (length-map firsts (λ (first : First). own_file first [])) enough;
+  enough = rw (length-map firsts plain.new_file) enough;
   ready = ready-new_board guest firsts;
   few = rw (length-map names new_file) few;
   free = refl;

@@ -73,7 +73,3 @@ pub record IsServable (w : World) : Type 0 where
   pub few : length w.state.made ≤ 16
   pub free : w.map.plain ≡ true
   pub pages : length w.map.table ≡ w.state.pages
-
--- each page that is mapped is one of a file, of the first so many; file i has node i + 2
-abbrev pub NamesFiles : ℕ → MapView → Type 0
-NamesFiles count map = (page : ℕ) (p : Page) → mapped_at map page ≡ Some p → (2 ≤ p.node) × (p.node - 2 < count)

@@ -21,7 +21,7 @@ use Rattle.fuse_wire.specs.declared.records.WriteIn.{WriteIn}
 use Rattle.page_map.specs.Board.{painted, is_whole}
 use Rattle.page_map.specs.declared.pages.Mode.TheVariants as modes
 use Rattle.page_map.specs.declared.pages.Span.{Span}
-use Rattle.plain_file.specs.Board.{file_at, file_answer, applied}
+use Rattle.plain_file.specs.Board.{file_at, size_of, noted, file_answer, applied}
 use Rattle.plain_file.specs.File.{max_file}
 use Rattle.plain_file.specs.declared.operations.Answer.{Answer}
 use Rattle.plain_file.specs.declared.operations.Answer.TheVariants as answers
@@ -151,10 +151,14 @@ write w node r bytes =
 
 -- ---- names
 
+-- the device after it saw the size of a file, which a board over a table notes
+abbrev pub seen_size : World → ℕ → World
+seen_size w i = record w { files = noted w.files i (size_of (file_at w.files i)) }
+
 -- the file that was looked up, if there is one
 abbrev pub found : Option ℕ → World → Outcome
 found None w = (Err ENOENT, w)
-found (Some i) w = (Ok (gives.Entry (entry_of w.state w.files i)), with_state w (looked_up w.state i))
+found (Some i) w = (Ok (gives.Entry (entry_of w.state w.files i)), with_state (seen_size w i) (looked_up w.state i))
 
 -- LOOKUP
 unfoldable pub lookup : World → ℕ → List ℕ → Outcome
@@ -171,7 +175,7 @@ unlink w node name = on_dir w node (unlinked (named w.state name) w)
 
 -- a file's entry and a new handle of it
 abbrev pub opens_entry : World → ℕ → Outcome
-opens_entry w i = (Ok (gives.Created (entry_of w.state w.files i) (open_out_of w.state)), with_state w (with_open (looked_up w.state i) (i + 2)))
+opens_entry w i = (Ok (gives.Created (entry_of w.state w.files i) (open_out_of w.state)), with_state (seen_size w i) (with_open (looked_up w.state i) (i + 2)))
 
 -- the lowest file that wasn't made is made
 abbrev pub makes_entry : World → List ℕ → Outcome

@@ -1,6 +1,7 @@
 -- The definitions on a window of 1,024 pages over two files of 8,192 bytes, the one 170, the other 187.
 use Rattle.std.proofs.Common.{◌≡◌, refl, ℕ, [], ◌∷◌, Some, None}
-use Rattle.page_map.specs.Board.{MapView, painted, wiped, is_writable}
+use Rattle.page_map.specs.Board.{MapView, painted, wiped}
+use Rattle.page_map.specs.Logs.{is_writable}
 use Rattle.page_map.specs.Plain.{new_map}
 use Rattle.page_map.specs.declared.pages.Mode.{Mode}
 use Rattle.page_map.specs.declared.pages.Mode.TheVariants as modes

@@ -4,11 +4,12 @@ use Rattle.std.proofs.lemmas.Bool.{le-leb, lt-leb}
 use Rattle.std.proofs.lemmas.Bool.Decides.{leb_tells}
 use Rattle.std.proofs.lemmas.Grind.{common_steps}
 use Rattle.std.specs.Option.{option_map, unwrap_or}
-use Rattle.page_map.specs.Board.{MapView, mapped_at, mapped_byte, byte_behind, is_writable}
+use Rattle.page_map.specs.Board.{MapView, NamesFiles, mapped_at, mapped_byte, byte_behind}
+use Rattle.page_map.specs.Logs.{is_writable}
 use Rattle.page_map.specs.declared.pages.Mode.TheVariants as modes
 use Rattle.page_map.specs.declared.pages.Page.{Page}
 use Rattle.plain_file.specs.Board.{BoardView, size_of}
-use Rattle.window_access.specs.Access.{NamesFiles, fails, file_of, first_failing, is_against}
+use Rattle.window_access.specs.Access.{fails, file_of, first_failing, is_against}
 use Rattle.window_access.specs.declared.refusals.Cause.{Cause}
 use Rattle.window_access.specs.declared.refusals.Cause.TheVariants as causes
 use Rattle.window_access.proofs.Finding.{find_none, find_first}

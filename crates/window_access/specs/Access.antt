@@ -2,7 +2,8 @@
 use Rattle.std.specs.Prelude.{◌≡◌, ◌≢◌, ℕ, zero, suc, ◌+◌, ◌-◌, ◌*◌, ◌/◌, ◌<◌, ◌≤◌, min, max, Bool, true, false, not, nat_le, List, [], ◌∷◌, length, map, take, drop, slice_get, slice_index_or, Option, Some, None, unwrap_or, Result, Ok, Err}
 use Rattle.std.specs.List.{range_with_len, find}
 use Rattle.std.specs.Option.{option_map, option_or}
-use Rattle.page_map.specs.Board.{MapView, mapped_at, mapped_byte, is_writable}
+use Rattle.page_map.specs.Board.{MapView, NamesFiles, mapped_byte}
+use Rattle.page_map.specs.Logs.{is_writable}
 use Rattle.page_map.specs.declared.pages.Mode.TheVariants as modes
 use Rattle.page_map.specs.declared.pages.Page.{Page}
 use Rattle.plain_file.specs.Board.{BoardView, FileView, file_at, bytes_now, size_of, applied, IsReady}
@@ -14,10 +15,6 @@ use Rattle.window_access.specs.declared.refusals.WindowRefusal.{WindowRefusal}
 use Rattle.window_access.specs.declared.refusals.WindowRefusal.TheVariants as refusals
 
 -- ---- what the window is of
-
--- each mapped page is of a file that there is: file i has node i + 2
-abbrev pub NamesFiles : ℕ → MapView → Type 0
-NamesFiles count map = (page : ℕ) (p : Page) → mapped_at map page ≡ Some p → (2 ≤ p.node) × (p.node - 2 < count)
 
 -- a plain board, all of whose files are ready
 pub record IsPlainReady (v : BoardView) : Type 0 where

@@ -5,11 +5,8 @@ ghost use Rattle.window_access.specs.declared.refusals.Cause.TheVariants as caus
 ghost use Rattle.window_access.specs.Access.{CanAccess, IsPlainReady, IsGranted, IsMapped, file_of, first_failing, refusal_at, load_refusal, store_refusal, IsRefusal};
 
 use crate::refusals::{Cause, WindowRefusal};
-use page_map::{MapBoard, Mode, Page, PageMap};
+use page_map::{MapBoard, Mode, PAGE_SIZE, Page, PageMap};
 use plain_file::FileBoard;
-
-// How many bytes a page has.
-pub(crate) const PAGE_SIZE: u64 = 4096;
 
 // How many of the bytes from an offset of the window on lie in its page.
 pub(crate) fn in_page(at: u64, len: u64) -> u64
@@ -31,7 +28,9 @@ fn size_of<F: FileBoard>(files: &mut F, p: &Page) -> u64
     ensures same { F.board files.new ≡ F.board files.old }
 {
     let _count = files.count();
-    files.size_now((p.node - 2) as u32)
+    let file = (p.node - 2) as u32;
+    files.sound(file);
+    files.size_now(file)
 }
 
 // The first of these bytes of one page that lies at or past the end of its file, which has this size.

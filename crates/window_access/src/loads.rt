@@ -1,6 +1,8 @@
 ghost use Rattle.std.specs.Prelude.{◌≡◌, ◌<◌, ◌≤◌, ◌+◌, ◌%◌, ◌^◌, length, IfOk};
+ghost use Rattle.plain_file.specs.Limits.{max_transfer};
 ghost use Rattle.window_access.specs.declared.refusals.Cause.TheVariants as causes;
-ghost use Rattle.window_access.specs.Access.{NamesFiles, IsPlainReady, CanAccess, IsGranted, Loads, AreShown, loaded};
+ghost use Rattle.page_map.specs.Board.{NamesFiles};
+ghost use Rattle.window_access.specs.Access.{IsPlainReady, CanAccess, IsGranted, Loads, AreShown, loaded};
 
 use crate::checks::{check_load, in_page};
 use crate::refusals::WindowRefusal;
@@ -26,7 +28,7 @@ pub fn load_window<F: FileBoard>(
 ) -> Result<Blob, WindowRefusal>
     requires ready { IsPlainReady (F.board files.old) }
     requires names { NamesFiles (length (F.board files.old).files) map.now }
-    requires small { len ≤ 1048576 }
+    requires small { len ≤ max_transfer }
     ensures loads { Loads (F.board files.old) map.now moffset len result }
     ensures shown { IfOk result (AreShown (F.board files.old) map.now moffset len) }
     ensures same { F.board files.new ≡ F.board files.old }

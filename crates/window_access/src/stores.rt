@@ -1,12 +1,13 @@
 ghost use Rattle.std.specs.Prelude.{◌≡◌, ◌≢◌, ◌<◌, ◌≤◌, ◌+◌, ◌-◌, ◌*◌, ◌/◌, ◌%◌, ◌^◌, None, length, OnOk, OnErr};
-ghost use Rattle.page_map.specs.Board.{mapped_byte};
+ghost use Rattle.plain_file.specs.Limits.{max_transfer};
 ghost use Rattle.plain_file.specs.Board.{applied};
 ghost use Rattle.plain_file.specs.declared.operations.Op.TheVariants as ops;
-ghost use Rattle.window_access.specs.Access.{NamesFiles, IsPlainReady, CanAccess, IsMapped, IsPartlyStored, Stores, piece_at, piece_bytes, piece_start, stored, touched};
+ghost use Rattle.page_map.specs.Board.{mapped_byte, NamesFiles};
+ghost use Rattle.window_access.specs.Access.{IsPlainReady, CanAccess, IsMapped, IsPartlyStored, Stores, piece_at, piece_bytes, piece_start, stored, touched};
 
-use crate::checks::{PAGE_SIZE, check_store, in_page};
+use crate::checks::{check_store, in_page};
 use crate::refusals::WindowRefusal;
-use page_map::{Page, PageMap};
+use page_map::{PAGE_SIZE, Page, PageMap};
 use plain_file::{Blob, FileBoard, MAX_FILE, Memory, Op};
 use std::alloc::Global;
 
@@ -30,7 +31,7 @@ pub fn store_window<F: FileBoard>(
 ) -> Result<(), WindowRefusal>
     requires ready { IsPlainReady (F.board files.old) }
     requires names { NamesFiles (length (F.board files.old).files) map.now }
-    requires small { length bytes.now ≤ 1048576 }
+    requires small { length bytes.now ≤ max_transfer }
     ensures { Stores (F.board files.old) map.now moffset bytes.now result (F.board files.new) }
 {
     check_store(files, map, moffset, bytes.len() as u64)?;

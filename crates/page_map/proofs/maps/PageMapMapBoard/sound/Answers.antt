@@ -1,0 +1,7 @@
+use Rattle.std.proofs.Common.{subst}
+use Rattle.page_map.specs.Board.{MapView, IsSoundPages}
+use Rattle.page_map.proofs.Showing.{IsSoundPages-plain}
+use Rattle.page_map.proofs.maps.PageMapMapBoard.sound.Goals as goal
+
+pub returns : goal.returns
+returns c = subst IsSoundPages c.self.view_is (IsSoundPages-plain c.self.inside.table.items)
