@@ -1,11 +1,13 @@
 -- The boards of the tests, which have nothing in hand, are boards of a device.
-use Rattle.std.proofs.Common.{◌≡◌, sym, ap, refl, arith, ◌<◌, ℕ, zero, suc, List, length, get_or, take, drop, replicate, Option, None, [], ◌∙◌, ◌⊎◌, inl, inr, false}
+use Rattle.std.proofs.Common.{◌≡◌, sym, ap, refl, arith, ◌<◌, ℕ, zero, suc, List, length, get_or, take, drop, replicate, Option, None, [], ◌∙◌, ◌⊎◌, inl, inr, true, false, true≢false}
 use Rattle.std.proofs.lemmas.Grind.{common_steps}
 use Rattle.std.proofs.lemmas.List.{length-replicate}
+use Rattle.std.proofs.lemmas.List.Elements.{All-nil}
 use Rattle.page_map.specs.Board.{MapView}
 use Rattle.page_map.specs.declared.pages.Page.{Page}
-use Rattle.plain_file.specs.Board.{BoardView, FileView, file_at, no_file, bytes_now, size_of, file_may_apply, may_apply, last_of}
+use Rattle.plain_file.specs.Board.{BoardView, FileView, file_at, no_file, bytes_now, size_of, file_may_apply, may_apply, is_file, last_of}
 use Rattle.plain_file.specs.File.{after}
+use Rattle.plain_file.specs.Sound.{IsSoundFile, IsSoundBoard}
 use Rattle.plain_file.specs.History.{bytes, after_all}
 use Rattle.plain_file.specs.declared.operations.Op.TheVariants as ops
 use Rattle.plain_file.specs.declared.operations.Mark.{Mark}
@@ -45,15 +47,35 @@ bareless_bytes mark file h = ap (λ (f : FileView). bytes_now f) (file_at-barele
 pub bareless_size : (mark : Mark) (file : ℕ) → file < length (bareless mark).files → 1 ≡ size_of (file_at (bareless mark) file)
 bareless_size mark file h = sym (ap (λ (b : List ℕ). length b) (bareless_bytes mark file h))
 
-falls : file_may_apply false bareless_file (ops.Truncate 0) ≡ false
+falls : file_may_apply false false bareless_file (ops.Truncate 0) ≡ false
 unfolding file_may_apply bytes_now bytes after_all after
 falls = refl
 
 pub bareless_falls : (mark : Mark) (file : ℕ) → file < length (bareless mark).files → may_apply (bareless mark) file (ops.Truncate 0) ≡ false
-bareless_falls mark file h = ap (λ (f : FileView). file_may_apply false f (ops.Truncate 0)) (file_at-bareless mark file (within mark file h)) ∙ falls
+unfolding is_file
+bareless_falls mark file h = ap (λ (f : FileView). file_may_apply false false f (ops.Truncate 0)) (file_at-bareless mark file (within mark file h)) ∙ falls
 
 pub bareless_own : (mark : Mark) (file : ℕ) → file < length (bareless mark).files → None ≡ last_of (file_at (bareless mark) file).own
 bareless_own mark file h = sym (ap (λ (f : FileView). last_of f.own) (file_at-bareless mark file (within mark file h)))
+
+-- what holds of every board holds of these
+sound_file : IsSoundFile 0 false bareless_file
+unfolding bytes_now bytes after_all
+sound_file = record {
+  ready = λ plain. absurd (true≢false (sym plain));
+  own = All-nil _;
+  rising = λ i j p q less e f. absurd cc;
+  notes = All-nil _;
+  floor = λ shared ready. tt;
+  small = omega arith;
+}
+
+pub bareless_sound : (mark : Mark) (file : ℕ) → file < length (bareless mark).files → IsSoundBoard (bareless mark) file
+bareless_sound mark file h = record {
+  alone = λ plain. refl;
+  counted = length-replicate {A = ℕ} 16 0 ∙ sym (length-replicate {A = FileView} 16 bareless_file);
+  sound = rw (file_at-bareless mark file (within mark file h)) sound_file;
+}
 
 -- what is read of one byte 0
 pub none_read : (n off : ℕ) → (0 < off) ⊎ (n ≡ 0) → take n (drop off zero_byte) ≡ []

@@ -1,3 +1,4 @@
 pub mod Unlooks
 pub mod Numbering
 pub mod Handless
+pub mod Noting

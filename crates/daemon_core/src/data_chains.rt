@@ -1,17 +1,15 @@
 ghost use Rattle.std.specs.Prelude.{◌≡◌, ◌≤◌, length, true, IfOk, OnOk, OnErr};
 ghost use Rattle.fuse_codec.specs.Grammar.{max_part, is_bounded};
-ghost use Rattle.fuse_codec.specs.Reading.{message_of};
 ghost use Rattle.fuse_device.specs.Steps.{wanted_room, replied};
-ghost use Rattle.fuse_device.specs.DataSteps.{is_data, data_answered, data_judged_message, data_judged, data_step, CanServeData, CanStepData};
+ghost use Rattle.fuse_device.specs.DataSteps.{is_data, data_answered, data_judged_message, data_step, CanServeData, CanStepData};
+ghost use Rattle.fuse_device.specs.Plans.{IsBoundedPlan, CanServePlan, plan_step};
 ghost use Rattle.fuse_device.specs.Promises.{Gives, IsWithin, Steps, world};
 
 use crate::daemon::Daemon;
-use crate::steps::{
-    MAX_REPLY, errno_of, header_at, is_forget_number, put_error, refusal, wanted_room,
-};
-use fuse_codec::{BadRequest, Message, Reply, Request, decode_request, put_reply};
-use fuse_device::Refused;
-use fuse_wire::{Errno, InHeader, OutHeader};
+use crate::steps::{put_error, refusal, wanted_room, with_room};
+use fuse_codec::{Message, Reply, Request, put_reply};
+use fuse_device::{Plan, Refused, plan_chain};
+use fuse_wire::Errno;
 use page_map::MapBoard;
 use plain_file::{Blob, FileBoard, Memory};
 use std::alloc::Global;
@@ -80,7 +78,6 @@ impl Daemon {
     fn answer_data_message<F: FileBoard, M: MapBoard>(
         &self,
         alloc: Global,
-        unique: u64,
         message: Message,
         room: u32,
         files: &mut F,
@@ -88,10 +85,10 @@ impl Daemon {
     ) -> Result<Blob, Memory>
         requires bounded { is_bounded message.body ≡ true }
         requires boards { CanServeData self.now (F.board files.old) (M.map map.old) message.head.nodeid message.body }
-        ensures { Steps (world self.now (F.board files.old) (M.map map.old)) (replied unique (data_judged_message (world self.now (F.board files.old) (M.map map.old)) room message)) result (world self.now (F.board files.new) (M.map map.new)) }
+        ensures { Steps (world self.now (F.board files.old) (M.map map.old)) (replied message.head.unique (data_judged_message (world self.now (F.board files.old) (M.map map.old)) room message)) result (world self.now (F.board files.new) (M.map map.new)) }
     {
-        let most = wanted_room(&message.body).min(MAX_REPLY);
-        let mut out = Vec::with_capacity(alloc, most as usize)?;
+        let unique = message.head.unique;
+        let mut out = with_room(alloc, &message.body)?;
         match self.judge_data(alloc, message, room, files, map) {
             Ok(reply) => put_reply(&mut out, &reply, unique),
             Err(Refused::Errno(error)) => put_error(&mut out, error, unique),
@@ -100,25 +97,34 @@ impl Daemon {
         Ok(Blob::from_vec(out))
     }
 
-    // Decodes, judges and replies.
-    #[tactic(auto, using(fuse_device::proofs::Decoded::decoded_bounded, fuse_device::proofs::DataLaws::serves_step))]
-    fn reply_data<F: FileBoard, M: MapBoard>(
+    /// Serves the plan of a chain as a daemon that several queues share and that stays as it is: with
+    /// the plan that [`plan_chain`](fuse_device::plan_chain) makes of a readable part and this room,
+    /// it is [`serve_chain_data`](Daemon::serve_chain_data) of that part and room.
+    ///
+    /// The plan's message, where it has one, is one that bytes can say, as `plan_chain` gives it. Each
+    /// made file is on the board of files, and the map has as many pages as the daemon. The file that
+    /// [`plan_file`](Daemon::plan_file) gives is ready, if it gives one; no other one has to be.
+    ///
+    /// `Memory` comes only from a refused allocation, and nothing has changed then.
+    #[tactic(auto, using(fuse_device::proofs::Planning::plan_serves), unfolding(fuse_device::specs::Plans::plan_step))]
+    pub fn serve_plan<F: FileBoard, M: MapBoard>(
         &self,
         alloc: Global,
-        unique: u64,
-        readable: &[u8],
+        plan: Plan,
         room: u32,
         files: &mut F,
         map: &mut M,
     ) -> Result<Blob, Memory>
-        requires within { length readable.now ≤ max_part }
-        requires boards { CanStepData self.now (F.board files.old) (M.map map.old) readable.now }
-        ensures { Steps (world self.now (F.board files.old) (M.map map.old)) (replied unique (data_judged (world self.now (F.board files.old) (M.map map.old)) room (message_of readable.now))) result (world self.now (F.board files.new) (M.map map.new)) }
+        requires bounded { IsBoundedPlan plan }
+        requires boards { CanServePlan self.now (F.board files.old) (M.map map.old) plan }
+        ensures reply { IfOk result (λ b. b ≡ (plan_step (world self.now (F.board files.old) (M.map map.old)) plan room).1) }
+        ensures step { OnOk result (world self.now (F.board files.new) (M.map map.new) ≡ (plan_step (world self.now (F.board files.old) (M.map map.old)) plan room).0) }
+        ensures memory { OnErr result (world self.now (F.board files.new) (M.map map.new) ≡ world self.now (F.board files.old) (M.map map.old)) }
     {
-        match decode_request(alloc, readable) {
-            Ok(message) => self.answer_data_message(alloc, unique, message, room, files, map),
-            Err(BadRequest::Memory) => Err(Memory),
-            Err(bad) => refusal(alloc, errno_of(bad), unique),
+        match plan {
+            Plan::Silent => Ok(Blob::new(alloc)),
+            Plan::Refuse { error, unique } => refusal(alloc, error, unique),
+            Plan::Carry(message) => self.answer_data_message(alloc, message, room, files, map),
         }
     }
 
@@ -136,7 +142,7 @@ impl Daemon {
     /// other one has to be.
     ///
     /// `Memory` comes only from a refused allocation, and nothing has changed then.
-    #[tactic(auto, unfolding(fuse_device::specs::DataSteps::data_step))]
+    #[tactic(auto, using(fuse_device::proofs::Planning::data_step_planned, fuse_device::proofs::Planning::step_serves_plan))]
     pub fn serve_chain_data<F: FileBoard, M: MapBoard>(
         &self,
         alloc: Global,
@@ -151,17 +157,8 @@ impl Daemon {
         ensures step { OnOk result (world self.now (F.board files.new) (M.map map.new) ≡ (data_step (world self.now (F.board files.old) (M.map map.old)) readable.now room).0) }
         ensures memory { OnErr result (world self.now (F.board files.new) (M.map map.new) ≡ world self.now (F.board files.old) (M.map map.old)) }
     {
-        if readable.len() < InHeader::SIZE {
-            return Ok(Blob::new(alloc));
-        }
-        let header = header_at(readable);
-        if is_forget_number(header.opcode) {
-            return Ok(Blob::new(alloc));
-        }
-        if (room as usize) < OutHeader::SIZE {
-            return Ok(Blob::new(alloc));
-        }
-        self.reply_data(alloc, header.unique, readable, room, files, map)
+        let plan = plan_chain(alloc, readable, room)?;
+        self.serve_plan(alloc, plan, room, files, map)
     }
 }
 

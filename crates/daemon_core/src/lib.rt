@@ -27,7 +27,7 @@ mod transfers;
 mod turns;
 
 pub use daemon::Daemon;
-pub use fuse_device::Refused;
+pub use fuse_device::{Plan, Refused, plan_chain};
 pub use window_access::{WindowRefusal, load_window, store_window};
 
 #[cfg(test)]

@@ -11,10 +11,7 @@ use crate::transfers::is_past;
 use fuse_codec::Reply;
 use fuse_device::Refused;
 use fuse_wire::{Errno, RemoveOne, SetupIn};
-use page_map::{MapBoard, Mode, Span};
-
-// How many bytes a page has.
-const PAGE_SIZE: u64 = 4096;
+use page_map::{MapBoard, Mode, PAGE_SIZE, Span};
 
 impl Daemon {
     // SETUPMAPPING.

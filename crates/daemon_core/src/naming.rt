@@ -1,6 +1,6 @@
 ghost use Rattle.std.specs.Prelude.{◌≡◌, ◌<◌, length, true, IfOk, IfSome};
 ghost use Rattle.page_map.specs.Board.{MapView};
-ghost use Rattle.plain_file.specs.Board.{BoardView, IsReady};
+ghost use Rattle.plain_file.specs.Board.{BoardView, IsReady, file_at, size_of, noted};
 ghost use Rattle.fuse_device.specs.Checks.{may_open};
 ghost use Rattle.fuse_device.specs.Entries.{entry_of};
 ghost use Rattle.fuse_device.specs.Requests.{found, lookup, unlinked, unlink, opens_entry, makes_entry, created, create, is_dots, forget, batch_forget};
@@ -11,23 +11,21 @@ use crate::daemon::Daemon;
 use fuse_codec::Reply;
 use fuse_device::Refused;
 use fuse_wire::{CreateIn, EntryOut, Errno, ForgetOne};
-use plain_file::{FileBoard, Name};
+use plain_file::{FileBoard, MAX_FILES, Name};
 
 // O_EXCL: the file must not be there.
 const EXCLUSIVE: u32 = 0o200;
 
-// How many files are made at most.
-const MAX_FILES: usize = 16;
-
 impl Daemon {
-    // A file's entry.
-    #[tactic(auto, unfolding(fuse_device::specs::State::is_made))]
+    // A file's entry, of the size that the board sees.
+    #[tactic(auto, using(crate::proofs::Noting::noted_length), unfolding(fuse_device::specs::State::is_made))]
     fn entry_of<F: FileBoard>(&self, i: usize, files: &mut F) -> EntryOut
         requires made { i < length self.now.made }
         requires there { i < length (F.board files.old).files }
         requires ready { IsReady (F.board files.old) i }
         ensures value { result ≡ entry_of self.now (F.board files.old) i }
-        ensures same { F.board files.new ≡ F.board files.old }
+        ensures noted { F.board files.new ≡ noted (F.board files.old) i (size_of (file_at (F.board files.old) i)) }
+        ensures files { length (F.board files.new).files ≡ length (F.board files.old).files }
     {
         let number = self.number_of(i);
         let size = files.size_now(number);
@@ -113,8 +111,8 @@ impl Daemon {
         self.unlinked(i)
     }
 
-    // A file's entry and a new handle of it.
-    #[tactic(auto, using(fuse_codec::proofs::CleanReplies::body_sizes), unfolding(fuse_codec::specs::Replies::reply_parts, fuse_codec::specs::Replies::is_reply))]
+    // A file's entry and a new handle of it. The handle comes first: a size that was seen stays noted.
+    #[tactic(auto, using(fuse_codec::proofs::CleanReplies::body_sizes), unfolding(fuse_device::specs::Entries::file_attr, fuse_codec::specs::Replies::reply_parts, fuse_codec::specs::Replies::is_reply))]
     fn opens_entry<F: FileBoard>(&mut self, i: usize, files: &mut F) -> Result<Reply, Refused>
         requires made { i < length self.old.made }
         requires files { HasFiles self.old (F.board files.old) }
@@ -123,8 +121,8 @@ impl Daemon {
         ensures room { IfOk result (λ reply. IsWithin 160 reply) }
         ensures files { length (F.board files.new).files ≡ length (F.board files.old).files }
     {
+        let opened = self.open(self.number_of(i) as u64 + 2)?;
         let entry = self.entry_of(i, files);
-        let opened = self.open(i as u64 + 2)?;
         self.count_up(i);
         Ok(Reply::Created { entry, opened })
     }
@@ -172,7 +170,7 @@ impl Daemon {
                 self.opens_entry(i, files)
             }
             None => {
-                if self.count() >= MAX_FILES {
+                if self.count() >= MAX_FILES as usize {
                     return Err(Refused::Errno(Errno::ENOSPC));
                 }
                 if !self.may_open() {

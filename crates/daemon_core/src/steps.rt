@@ -1,21 +1,21 @@
-ghost use Rattle.std.specs.Prelude.{◌≡◌, ◌≤◌, [], length, true, Err, vec_capacity, IfOk, OnOk, OnErr};
+ghost use Rattle.std.specs.Prelude.{◌≡◌, ◌≤◌, [], length, min, true, Err, vec_capacity, IfOk, OnOk, OnErr};
 ghost use Rattle.fuse_codec.specs.Grammar.{max_part, is_bounded};
 ghost use Rattle.fuse_codec.specs.Reading.{message_of};
 ghost use Rattle.fuse_codec.specs.Replies.{clean_reply};
-ghost use Rattle.fuse_device.specs.Steps.{wanted_room, errno_of, reply_to, is_forget_number, header_at, judged_message, judged, forgot, replied, device_step};
+ghost use Rattle.fuse_device.specs.Steps.{wanted_room, reply_to, judged_message, forgot, replied, device_step};
 ghost use Rattle.fuse_device.specs.Promises.{Gives, IsWithin, CanServe, CanStep, Steps, world};
 
 use crate::daemon::Daemon;
 use crate::serving::is_init;
 use fuse_codec::{BadRequest, MAX_TRANSFER, Message, Reply, Request, decode_request, put_reply};
-use fuse_device::Refused;
-use fuse_wire::{Errno, InHeader, OutHeader};
+use fuse_device::{Plan, Refused, is_forget_chain, plan_chain};
+use fuse_wire::{Errno, OutHeader};
 use page_map::MapBoard;
 use plain_file::{Blob, FileBoard, Memory};
 use std::alloc::Global;
 
 // The most bytes that a reply takes with its header.
-pub(crate) const MAX_REPLY: u64 = OutHeader::SIZE as u64 + MAX_TRANSFER as u64;
+const MAX_REPLY: u64 = OutHeader::SIZE as u64 + MAX_TRANSFER as u64;
 
 impl Daemon {
     // Judges the session and the room for the reply, then serves the request.
@@ -47,7 +47,6 @@ impl Daemon {
     fn answer_message<F: FileBoard, M: MapBoard>(
         &mut self,
         alloc: Global,
-        unique: u64,
         message: Message,
         room: u32,
         files: &mut F,
@@ -55,38 +54,16 @@ impl Daemon {
     ) -> Result<Blob, Memory>
         requires bounded { is_bounded message.body ≡ true }
         requires boards { CanServe self.old (F.board files.old) (M.map map.old) message.body }
-        ensures { Steps (world self.old (F.board files.old) (M.map map.old)) (replied unique (judged_message (world self.old (F.board files.old) (M.map map.old)) room message)) result (world self.new (F.board files.new) (M.map map.new)) }
+        ensures { Steps (world self.old (F.board files.old) (M.map map.old)) (replied message.head.unique (judged_message (world self.old (F.board files.old) (M.map map.old)) room message)) result (world self.new (F.board files.new) (M.map map.new)) }
     {
-        let most = wanted_room(&message.body).min(MAX_REPLY);
-        let mut out = Vec::with_capacity(alloc, most as usize)?;
+        let unique = message.head.unique;
+        let mut out = with_room(alloc, &message.body)?;
         match self.judge(alloc, message, room, files, map) {
             Ok(reply) => put_reply(&mut out, &reply, unique),
             Err(Refused::Errno(error)) => put_error(&mut out, error, unique),
             Err(Refused::Memory) => return Err(Memory),
         }
         Ok(Blob::from_vec(out))
-    }
-
-    // Decodes, judges and replies.
-    #[tactic(auto, using(fuse_device::proofs::Decoded::decoded_bounded))]
-    fn reply_chain<F: FileBoard, M: MapBoard>(
-        &mut self,
-        alloc: Global,
-        unique: u64,
-        readable: &[u8],
-        room: u32,
-        files: &mut F,
-        map: &mut M,
-    ) -> Result<Blob, Memory>
-        requires within { length readable.now ≤ max_part }
-        requires boards { CanStep self.old (F.board files.old) (M.map map.old) readable.now }
-        ensures { Steps (world self.old (F.board files.old) (M.map map.old)) (replied unique (judged (world self.old (F.board files.old) (M.map map.old)) room (message_of readable.now))) result (world self.new (F.board files.new) (M.map map.new)) }
-    {
-        match decode_request(alloc, readable) {
-            Ok(message) => self.answer_message(alloc, unique, message, room, files, map),
-            Err(BadRequest::Memory) => Err(Memory),
-            Err(bad) => refusal(alloc, errno_of(bad), unique),
-        }
     }
 
     // Carries out what has no reply.
@@ -138,7 +115,7 @@ impl Daemon {
     /// Where the bytes are a request, the conditions of [`serve`](Daemon::serve) on the files and the
     /// map hold. `Memory` comes only from a refused allocation. Room for the reply is had before
     /// anything is done, so nothing has changed then.
-    #[tactic(auto, unfolding(fuse_device::specs::Steps::device_step))]
+    #[tactic(auto, using(fuse_device::proofs::Planning::device_step_planned, fuse_device::proofs::Planning::device_step_forgot), unfolding(fuse_device::specs::Plans::whole_plan_step))]
     pub fn serve_chain<F: FileBoard, M: MapBoard>(
         &mut self,
         alloc: Global,
@@ -153,36 +130,16 @@ impl Daemon {
         ensures step { OnOk result (world self.new (F.board files.new) (M.map map.new) ≡ (device_step (world self.old (F.board files.old) (M.map map.old)) readable.now room).0) }
         ensures memory { OnErr result (world self.new (F.board files.new) (M.map map.new) ≡ world self.old (F.board files.old) (M.map map.old)) }
     {
-        if readable.len() < InHeader::SIZE {
-            return Ok(Blob::new(alloc));
-        }
-        let header = header_at(readable);
-        if is_forget_number(header.opcode) {
+        if is_forget_chain(readable) {
             self.forget_chain(alloc, readable, files, map)?;
             return Ok(Blob::new(alloc));
         }
-        if (room as usize) < OutHeader::SIZE {
-            return Ok(Blob::new(alloc));
+        match plan_chain(alloc, readable, room)? {
+            Plan::Silent => Ok(Blob::new(alloc)),
+            Plan::Refuse { error, unique } => refusal(alloc, error, unique),
+            Plan::Carry(message) => self.answer_message(alloc, message, room, files, map),
         }
-        self.reply_chain(alloc, header.unique, readable, room, files, map)
     }
-}
-
-// The header at the front of the readable bytes.
-#[tactic(auto, unfolding(fuse_wire::specs::Records::in_header_of))]
-pub(crate) fn header_at(readable: &[u8]) -> InHeader
-    requires { 40 ≤ length readable.now }
-    ensures { result ≡ header_at readable.now }
-{
-    InHeader::read(readable.split_at(InHeader::SIZE).0).unwrap()
-}
-
-// Whether an opcode is that of a forget.
-#[tactic(auto, unfolding(fuse_codec::specs::Opcodes::number))]
-pub(crate) fn is_forget_number(opcode: u32) -> bool
-    ensures { result ≡ is_forget_number opcode }
-{
-    opcode == 2 || opcode == 42
 }
 
 // The room that a request's reply wants.
@@ -194,19 +151,14 @@ pub(crate) fn wanted_room(body: &Request) -> u64
     body.room().unwrap_or(16)
 }
 
-// The error that answers bytes which are no request.
-#[tactic(auto, unfolding(fuse_device::specs::Steps::errno_of))]
-pub(crate) fn errno_of(bad: BadRequest) -> Errno
-    ensures { result ≡ errno_of bad }
+// Room for a request's reply, and for an error.
+pub(crate) fn with_room(alloc: Global, body: &Request) -> Result<Vec<u8>, Memory>
+    ensures empty { IfOk result (λ out. out.items ≡ []) }
+    ensures reply { IfOk result (λ out. min (wanted_room body.now) 1048592 ≤ vec_capacity out) }
+    ensures error { IfOk result (λ out. 16 ≤ vec_capacity out) }
 {
-    match bad {
-        BadRequest::Opcode { .. } => Errno::ENOSYS,
-        BadRequest::Short
-        | BadRequest::Length { .. }
-        | BadRequest::Extended { .. }
-        | BadRequest::Body { .. }
-        | BadRequest::Memory => Errno::EINVAL,
-    }
+    let most = wanted_room(body).min(MAX_REPLY);
+    Ok(Vec::with_capacity(alloc, most as usize)?)
 }
 
 // Puts an error into room that is there.

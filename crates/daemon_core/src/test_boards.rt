@@ -59,6 +59,9 @@ impl FileBoard for BarelessFiles {
     fn own_last(&self, _file: u32) -> Option<u64> {
         None
     }
+
+    #[tactic(auto, using(crate::proofs::Handless::bareless_sound))]
+    fn sound(&self, _file: u32) {}
 }
 
 // Whether an operation cuts all bytes of a file.
@@ -124,4 +127,6 @@ impl MapBoard for HandlessMap {
 
     #[tactic(auto, unfolding(page_map::specs::Board::may_clear, page_map::specs::Board::is_moved))]
     fn clear(&mut self, _moffset: u64, _len: u64) {}
+
+    fn sound(&self) {}
 }

@@ -2,11 +2,12 @@ ghost use Rattle.std.specs.Prelude.{◌≡◌, ◌≤◌, length, is_some};
 ghost use Rattle.fuse_codec.specs.Grammar.{max_part};
 ghost use Rattle.fuse_codec.specs.Opcodes.{opcode_of};
 ghost use Rattle.fuse_codec.specs.Reading.{write_of};
-ghost use Rattle.fuse_device.specs.DataSteps.{is_file_body, is_body_on_file, file_of, named_in, named_file};
+ghost use Rattle.fuse_device.specs.DataSteps.{is_on_file, is_file_body, is_body_on_file, file_of, named_in, named_file};
+ghost use Rattle.fuse_device.specs.Plans.{plan_file};
 
 use crate::daemon::Daemon;
-use crate::steps::header_at;
-use fuse_codec::{MAX_TRANSFER, Opcode};
+use fuse_codec::{MAX_TRANSFER, Opcode, Request};
+use fuse_device::{Plan, header_at};
 use fuse_wire::{GetattrIn, InHeader, ReadIn, SetattrIn, WriteIn};
 
 impl Daemon {
@@ -32,6 +33,20 @@ impl Daemon {
         }
     }
 
+    /// The number of the file whose turn a plan needs before [`serve_plan`](Daemon::serve_plan) serves it.
+    ///
+    /// It is a file exactly where the plan carries a READ, WRITE, GETATTR or SETATTR, and the request's
+    /// node is a known file's: a made file that has a name, a lookup that wasn't given back, or an open
+    /// handle. Nothing is allocated.
+    pub fn plan_file(&self, plan: &Plan) -> Option<u32>
+        ensures { result ≡ plan_file self.now plan.now }
+    {
+        match plan {
+            Plan::Carry(message) if is_on_file(&message.body) => self.file_at(message.head.nodeid),
+            _ => None,
+        }
+    }
+
     /// The number of the file whose turn a chain needs before [`serve_chain_data`](Daemon::serve_chain_data)
     /// serves it. `readable` is the chain's readable part, of at most `MAX_PART` bytes.
     ///
@@ -52,6 +67,19 @@ impl Daemon {
         }
         let (_, body) = readable.split_at(InHeader::SIZE);
         self.named_in(&header, body)
+    }
+}
+
+// Whether a request is for a file's bytes or attributes.
+#[tactic(auto, unfolding(fuse_device::specs::DataSteps::is_on_file))]
+fn is_on_file(body: &Request) -> bool
+    ensures { result ≡ is_on_file body.now }
+{
+    match body {
+        Request::Getattr(_) | Request::Setattr(_) | Request::Read(_) | Request::Write { .. } => {
+            true
+        }
+        _ => false,
     }
 }
 

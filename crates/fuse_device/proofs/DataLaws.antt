@@ -190,7 +190,7 @@ serves_data s files map node q h = record {
   pages = h.pages;
 }
 
-file_named : (s : State) (m : Message) → is_on_file m.body ≡ true → m.head.nodeid ≢ 1 → is_known s m.head.nodeid ≡ true → file_in s (Ok m) ≡ Some (m.head.nodeid - 2)
+pub file_named : (s : State) (m : Message) → is_on_file m.body ≡ true → m.head.nodeid ≢ 1 → is_known s m.head.nodeid ≡ true → file_in s (Ok m) ≡ Some (m.head.nodeid - 2)
 file_named s m on other known = rw on (known_file s m.head.nodeid other known)
 
 -- boards that are ready for a chain
@@ -211,7 +211,7 @@ ok_after true d x y e = absurd cc
 ok_after false d x y e = e
 
 -- a message has a header, an operation with the header's number, and its body
-with_header : (readable : List ℕ) (m : Message) → message_of readable ≡ Ok m → message_as (header_at readable) (opcode_of (header_at readable).opcode) (drop 40 readable) ≡ Ok m
+pub with_header : (readable : List ℕ) (m : Message) → message_of readable ≡ Ok m → message_as (header_at readable) (opcode_of (header_at readable).opcode) (drop 40 readable) ≡ Ok m
 unfolding message_of message_after
 with_header readable m e =
     let h : InHeader = header_at readable in

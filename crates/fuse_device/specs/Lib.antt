@@ -6,3 +6,4 @@ pub mod Steps
 pub mod Promises
 pub mod DataSteps
 pub mod OpenFiles
+pub mod Plans

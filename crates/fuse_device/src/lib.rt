@@ -24,8 +24,10 @@
 //! read as that reply.
 #![tactic(auto)]
 
+mod plans;
 mod refusals;
 mod tables;
 
+pub use plans::{Plan, header_at, is_forget_chain, plan_chain};
 pub use refusals::Refused;
 pub use tables::{Kind, MadeFile, Opened};
