@@ -2,3 +2,4 @@ pub mod StepKeeps
 pub mod Judging
 pub mod Hearing
 pub mod Serving
+pub mod Carrying
