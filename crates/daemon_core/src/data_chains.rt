@@ -1,5 +1,6 @@
 ghost use Rattle.std.specs.Prelude.{◌≡◌, ◌≤◌, length, true, IfOk, OnOk, OnErr};
-ghost use Rattle.fuse_codec.specs.Grammar.{max_part, is_bounded};
+ghost use Rattle.plain_file.specs.Limits.{max_part};
+ghost use Rattle.fuse_codec.specs.Grammar.{is_bounded};
 ghost use Rattle.fuse_device.specs.Steps.{wanted_room, replied};
 ghost use Rattle.fuse_device.specs.DataSteps.{is_data, data_answered, data_judged_message, data_step, CanServeData, CanStepData};
 ghost use Rattle.fuse_device.specs.Plans.{IsBoundedPlan, CanServePlan, plan_step};

@@ -1,5 +1,6 @@
 ghost use Rattle.std.specs.Prelude.{◌≡◌, ◌≤◌, [], length, min, true, Err, vec_capacity, IfOk, OnOk, OnErr};
-ghost use Rattle.fuse_codec.specs.Grammar.{max_part, is_bounded};
+ghost use Rattle.plain_file.specs.Limits.{max_part};
+ghost use Rattle.fuse_codec.specs.Grammar.{is_bounded};
 ghost use Rattle.fuse_codec.specs.Reading.{message_of};
 ghost use Rattle.fuse_codec.specs.Replies.{clean_reply};
 ghost use Rattle.fuse_device.specs.Steps.{wanted_room, reply_to, judged_message, forgot, replied, device_step};

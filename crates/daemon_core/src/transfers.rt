@@ -1,6 +1,6 @@
 ghost use Rattle.std.specs.Prelude.{◌≡◌, ◌+◌, length, IfOk};
+ghost use Rattle.plain_file.specs.Limits.{max_transfer};
 ghost use Rattle.page_map.specs.Board.{MapView};
-ghost use Rattle.fuse_codec.specs.Grammar.{max_transfer};
 ghost use Rattle.fuse_device.specs.Checks.{is_past};
 ghost use Rattle.fuse_device.specs.Requests.{bytes_reply, applies, read, write};
 ghost use Rattle.fuse_device.specs.Promises.{Gives, IsWithin, world};

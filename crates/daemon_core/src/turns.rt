@@ -1,5 +1,5 @@
 ghost use Rattle.std.specs.Prelude.{◌≡◌, ◌≤◌, length, is_some};
-ghost use Rattle.fuse_codec.specs.Grammar.{max_part};
+ghost use Rattle.plain_file.specs.Limits.{max_part};
 ghost use Rattle.fuse_codec.specs.Opcodes.{opcode_of};
 ghost use Rattle.fuse_codec.specs.Reading.{write_of};
 ghost use Rattle.fuse_device.specs.DataSteps.{is_on_file, is_file_body, is_body_on_file, file_of, named_in, named_file};

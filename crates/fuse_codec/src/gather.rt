@@ -14,6 +14,7 @@ pub struct Gather {
 
 impl Model for Gather {
     ghost use Rattle.std.specs.Prelude.{◌≤◌, List, ℕ, length};
+    ghost use Rattle.plain_file.specs.Limits.{max_part};
 
     ghost Value = { List ℕ };
 

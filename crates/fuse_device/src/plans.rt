@@ -1,5 +1,5 @@
 ghost use Rattle.std.specs.Prelude.{◌≡◌, ◌≤◌, length, IfOk};
-ghost use Rattle.fuse_codec.specs.Grammar.{max_part};
+ghost use Rattle.plain_file.specs.Limits.{max_part};
 ghost use Rattle.fuse_device.specs.Steps.{errno_of, is_forget_number, header_at};
 ghost use Rattle.fuse_device.specs.Plans.{plan, is_forget_chain, IsBoundedPlan};
 
