@@ -1,7 +1,7 @@
-ghost use Rattle.std.specs.Prelude.{◌≡◌, true, None, IfOk};
+ghost use Rattle.std.specs.Prelude.{◌≡◌, true, Ok, None, IfOk};
 ghost use Rattle.daemon_core.specs.Promises.{world};
-ghost use Rattle.guest_wire.specs.Wires.{IsStep, world_at};
-ghost use Rattle.dax_host.specs.Solo.{solo_wire};
+ghost use Rattle.dax_host.specs.Queue.{fresh_queue};
+ghost use Rattle.dax_host.specs.Solo.{solo_wire, solo_queue, SoloGives};
 
 use crate::queue::Queue;
 use daemon_core::Daemon;
@@ -19,10 +19,11 @@ pub struct SoloWire<'a> {
 }
 
 impl<'a> SoloWire<'a> {
-    /// A wire to this daemon, with a queue and a memory of its own. `Memory` comes where an
-    /// allocation was refused.
+    /// A wire to this daemon, with a queue and a memory of its own: four descriptors, nothing offered
+    /// yet, and all bytes 0. `Memory` comes where an allocation was refused.
     pub fn new(alloc: Global, daemon: &'a mut Daemon) -> Result<SoloWire<'a>, Memory>
-        ensures { IfOk result (λ w. solo_wire w ≡ record { honest = true; over = None; faults = 0; state = daemon.old }) }
+        ensures wire { IfOk result (λ w. solo_wire w ≡ record { honest = true; over = None; faults = 0; state = daemon.old }) }
+        ensures queue { IfOk result (λ w. solo_queue w ≡ fresh_queue 4) }
     {
         let queue = Queue::new(alloc)?;
         Ok(SoloWire { daemon, queue })
@@ -32,7 +33,7 @@ impl<'a> SoloWire<'a> {
 impl<'a, F: FileBoard, M: MapBoard> Wire<F, M> for SoloWire<'a> {
     ghost wire = { solo_wire };
 
-    ghost gives = { λ before old sent bytes after new. IsStep (world_at (solo_wire before) old) sent bytes (world_at (solo_wire after) new) };
+    ghost gives = { λ before old sent bytes after new. SoloGives before old sent (Ok bytes) after new };
 
     fn submit(
         &mut self,
@@ -42,9 +43,7 @@ impl<'a, F: FileBoard, M: MapBoard> Wire<F, M> for SoloWire<'a> {
         files: &mut F,
         map: &mut M,
     ) -> Result<Blob, WireError> {
-        Ok(
-            self.queue
-                .carry(alloc, self.daemon, readable, room, files, map)?,
-        )
+        self.queue
+            .carry(alloc, self.daemon, readable, room, files, map)
     }
 }
