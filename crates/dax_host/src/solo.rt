@@ -12,6 +12,9 @@ use std::alloc::Global;
 
 /// A wire to a daemon in the caller's thread: each request goes through a split virtqueue (VIRTIO 1.2
 /// section 2.7) and back. It is honest, and never fails.
+///
+/// What it gives for a request says what becomes of the queue's memory and of both its sides: the request
+/// was offered, popped, answered by the bytes of the daemon's step, pushed and taken back.
 #[derive(Drop)]
 pub struct SoloWire<'a> {
     daemon: &'a mut Daemon,
@@ -19,8 +22,8 @@ pub struct SoloWire<'a> {
 }
 
 impl<'a> SoloWire<'a> {
-    /// A wire to this daemon, with a queue and a memory of its own: four descriptors, nothing offered
-    /// yet, and all bytes 0. `Memory` comes where an allocation was refused.
+    /// A wire to this daemon, with a queue of its own: it has four descriptors, nothing was offered yet,
+    /// and its memory is all 0. `Memory` comes where an allocation was refused.
     pub fn new(alloc: Global, daemon: &'a mut Daemon) -> Result<SoloWire<'a>, Memory>
         ensures wire { IfOk result (λ w. solo_wire w ≡ record { honest = true; over = None; faults = 0; state = daemon.old }) }
         ensures queue { IfOk result (λ w. solo_queue w ≡ fresh_queue 4) }
