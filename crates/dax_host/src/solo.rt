@@ -1,5 +1,4 @@
 ghost use Rattle.std.specs.Prelude.{◌≡◌, true, Ok, None, IfOk};
-ghost use Rattle.daemon_core.specs.Promises.{world};
 ghost use Rattle.dax_host.specs.Queue.{fresh_queue};
 ghost use Rattle.dax_host.specs.Solo.{solo_wire, solo_queue, SoloGives};
 
@@ -36,7 +35,8 @@ impl<'a> SoloWire<'a> {
 impl<'a, F: FileBoard, M: MapBoard> Wire<F, M> for SoloWire<'a> {
     ghost wire = { solo_wire };
 
-    ghost gives = { λ before old sent bytes after new. SoloGives before old sent (Ok bytes) after new };
+    ghost gives = { λ before old sent bytes after new.
+        SoloGives before old sent (Ok bytes) after new };
 
     fn submit(
         &mut self,

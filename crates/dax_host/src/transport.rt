@@ -1,7 +1,7 @@
-ghost use Rattle.std.specs.Prelude.{◌≡◌, ◌≤◌, ℕ, length, replicate, Some, None, IfOk, OnOk, OnErr};
+ghost use Rattle.std.specs.Prelude.{◌≡◌, ◌≤◌, ℕ, length, IfOk, OnOk, OnErr};
 ghost use Rattle.vring.specs.Chain.{max_part, ChainLiesIn};
 ghost use Rattle.vring.specs.Driver.{IsQueueSize, driver_layout, offered_room};
-ghost use Rattle.dax_host.specs.Queue.{QueueView, IsIdle, IsOffered, IsDelivered, fresh_queue, after_offer, after_pop, after_answer, after_return, given_up};
+ghost use Rattle.dax_host.specs.Queue.{IsIdle, IsOffered, IsDelivered, fresh_queue, after_offer, after_pop, after_answer, after_return, given_up};
 
 use plain_file::{Blob, Memory};
 use std::alloc::Global;
@@ -68,7 +68,9 @@ impl Sides {
         ensures ok { OnOk result (IsDelivered self.new room chain.new) }
         ensures bytes { OnOk result (bytes.new.items ≡ readable.now) }
         ensures popped { OnOk result (self.new ≡ after_pop (after_offer self.old readable.now room)) }
-        ensures offered { record self.new { ring = record self.new.ring { seen = self.old.ring.seen } } ≡ after_offer self.old readable.now room }
+        // whether it was seen or not
+        ensures offered { record self.new { ring = record self.new.ring { seen = self.old.ring.seen } }
+            ≡ after_offer self.old readable.now room }
         ensures out { IsOffered self.new room }
     {
         self.driver.size();
@@ -108,7 +110,8 @@ impl Sides {
     pub(crate) fn give_up(&mut self, room: u32)
         requires out { IsOffered self.old room }
         requires room { room ≤ max_part }
-        ensures queue { self.new ≡ after_return (record self.old { ring = record self.old.ring { seen = self.old.driver.offered } }) 0 }
+        ensures queue { self.new ≡ after_return
+            (record self.old { ring = record self.old.ring { seen = self.old.driver.offered } }) 0 }
         ensures idle { IsIdle self.new }
     {
         self.push(0, room);
@@ -165,7 +168,8 @@ impl Sides {
         requires room { room ≤ max_part }
         requires fits { length bytes.now ≤ room }
         ensures bytes { IfOk result (λ b. b ≡ bytes.now) }
-        ensures queue { self.new ≡ after_return (after_answer self.old room bytes.now) (length bytes.now) }
+        ensures queue { self.new ≡
+            after_return (after_answer self.old room bytes.now) (length bytes.now) }
         ensures idle { IsIdle self.new }
     {
         let len = self.put_answer(chain, bytes, room);
