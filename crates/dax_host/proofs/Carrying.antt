@@ -1,21 +1,54 @@
--- What a carried request keeps.
-use Rattle.std.proofs.Common.{◌≡◌, sym, subst, ℕ, List, inl, inr}
+-- What a carried request leaves, and keeps.
+use Rattle.std.proofs.Common.{◌≡◌, ◌∙◌, ap, sym, refl, subst, ◌≤◌, ℕ, false, List, length, Result, Ok, Err, inl, inr}
+use Rattle.plain_file.specs.Limits.{max_part}
+use Rattle.vring.specs.Driver.{offered_room, written_in}
+use Rattle.vring.proofs.Offers.{back_written}
 use Rattle.plain_file.specs.Board.{BoardView}
 use Rattle.page_map.specs.Board.{MapView}
 use Rattle.fuse_device.specs.State.{State, World}
-use Rattle.fuse_device.specs.Steps.{device_step}
-use Rattle.fuse_device.specs.Promises.{CanStep, world}
-use Rattle.guest_wire.specs.Wires.{boards, sending, IsStepOrNot}
+use Rattle.fuse_device.specs.Promises.{CanStep}
+use Rattle.guest_wire.specs.declared.wires.WireError.{WireError}
+use Rattle.guest_wire.specs.declared.wires.WireError.TheVariants as errors
+use Rattle.guest_wire.specs.Wires.{WireView, boards, Sent, IsStep, Honest, HasCause}
+use Rattle.guest_wire.proofs.Carrying.{carried_by_step}
 use Rattle.guest_wire.specs.Keeps.{KeepsBoards}
 use Rattle.guest_wire.proofs.StepKeeps.{KeepsBoards-same, KeepsBoards-device_step}
+use Rattle.dax_host.specs.Queue.{QueueView, IsSetUp, after_answer, after_return}
+use Rattle.dax_host.specs.Carrying.{Host, Carries}
 
-pub KeepsBoards-step : (s : State) (files : BoardView) (map : MapView) (readable : List ℕ) (room : ℕ) (new : World) → CanStep s files map readable
-    → new ≡ (device_step (world s files map) readable room).0 → KeepsBoards (boards files map) (boards new.files new.map)
-KeepsBoards-step s files map readable room new can step =
-    subst (λ (w : World). KeepsBoards (boards files map) (boards w.files w.map)) (sym step) (KeepsBoards-device_step s files map readable room can)
+-- the driver finds the answer in the room
+pub written_back : (q new : QueueView) (answer : List ℕ) (room len : ℕ) → IsSetUp q → len ≡ length answer → len ≤ room → room ≤ max_part
+    → new ≡ after_return (after_answer q room answer) len → written_in new.memory new.driver.size len ≡ answer
+written_back q new answer room len up count fits small is =
+    ap (λ (v : QueueView). written_in v.memory v.driver.size len) is
+    ∙ back_written q.memory answer (offered_room q.driver.size room) q.ring q.driver.size room 0 len len up.size up.layout refl count fits small up.len
 
-pub KeepsBoards-step_or_not : (s : State) (files : BoardView) (map : MapView) (readable : List ℕ) (room : ℕ) (new : World) → CanStep s files map readable
-    → IsStepOrNot (world s files map) (sending readable room) new → KeepsBoards (boards files map) (boards new.files new.map)
-KeepsBoards-step_or_not s files map readable room new can (inl same) =
-    subst (λ (w : World). KeepsBoards (boards files map) (boards w.files w.map)) (sym same) (KeepsBoards-same files map)
-KeepsBoards-step_or_not s files map readable room new can (inr step) = KeepsBoards-step s files map readable room new can step
+-- what the boards serve they serve under another name
+pub CanStep-same : (s : State) (files : BoardView) (map : MapView) (readable same : List ℕ) → same ≡ readable → CanStep s files map readable → CanStep s files map same
+CanStep-same s files map readable same e can = subst (CanStep s files map) (sym e) can
+
+-- a queue and its device are what an honest wire to the whole daemon is ..
+pub Carries-Honest : (w : WireView) (old : Host) (sent : Sent) (result : Result (List ℕ) WireError) (new : Host) → w.stays ≡ false → Carries old sent result new → Honest w old.world sent result new.world
+Carries-Honest w old sent (Ok bytes) new whole h = carried_by_step w old.world sent bytes new.world whole h.step
+Carries-Honest w old sent (Err errors.Memory) new whole (inl h) = inl h.world
+Carries-Honest w old sent (Err errors.Memory) new whole (inr h) = inr (inr (_, carried_by_step w old.world sent _ new.world whole h.step))
+Carries-Honest w old sent (Err errors.Fault) new whole h = absurd h
+
+-- .. and never fail
+pub Carries-HasCause : (old : Host) (sent : Sent) (result : Result (List ℕ) WireError) (new : Host) (before now : ℕ) → Carries old sent result new → HasCause before result now
+Carries-HasCause old sent (Ok bytes) new before now h e = cc
+Carries-HasCause old sent (Err errors.Memory) new before now h e = cc
+Carries-HasCause old sent (Err errors.Fault) new before now h e = absurd h
+
+stepped : (old : World) (sent : Sent) (bytes : List ℕ) (new : World) → CanStep old.state old.files old.map sent.bytes → IsStep old sent bytes new → KeepsBoards (boards old.files old.map) (boards new.files new.map)
+stepped old sent bytes new can e =
+    subst (λ (s : World × List ℕ). KeepsBoards (boards old.files old.map) (boards s.0.files s.0.map)) e (KeepsBoards-device_step old.state old.files old.map sent.bytes sent.room can)
+
+-- the boards keep what they keep over any wire
+pub Carries-KeepsBoards : (old : Host) (sent : Sent) (result : Result (List ℕ) WireError) (new : Host) → CanStep old.world.state old.world.files old.world.map sent.bytes → Carries old sent result new
+    → KeepsBoards (boards old.world.files old.world.map) (boards new.world.files new.world.map)
+Carries-KeepsBoards old sent (Ok bytes) new can h = stepped old.world sent bytes new.world can h.step
+Carries-KeepsBoards old sent (Err errors.Memory) new can (inl h) =
+    subst (λ (w : World). KeepsBoards (boards old.world.files old.world.map) (boards w.files w.map)) (sym h.world) (KeepsBoards-same old.world.files old.world.map)
+Carries-KeepsBoards old sent (Err errors.Memory) new can (inr h) = stepped old.world sent _ new.world can h.step
+Carries-KeepsBoards old sent (Err errors.Fault) new can h = absurd h

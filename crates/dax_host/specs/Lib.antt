@@ -1,2 +1,4 @@
 pub mod Queue
+pub mod Rounds
+pub mod Carrying
 pub mod Solo

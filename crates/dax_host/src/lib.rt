@@ -5,14 +5,17 @@
 //! answer goes back by the room of the chain. It is honest, and never fails: that what one side
 //! writes is what the other reads is a law of the queue.
 //!
-//! `specs/Queue` says how far a request has come through the queue, and `specs/Solo` what the wire
-//! means.
+//! `specs/Queue` says how far a request has come through the queue, and what it leaves there;
+//! `specs/Rounds` what each side reads then; `specs/Carrying` what comes of a request, of the queue and
+//! of the device together; and `specs/Solo` what the wire means.
 #![tactic(auto)]
 
+mod laws;
 mod queue;
 mod solo;
 #[cfg(test)]
 mod tests;
 mod transport;
 
+pub use laws::requests_go_through;
 pub use solo::SoloWire;

@@ -1,7 +1,6 @@
-ghost use Rattle.std.specs.Prelude.{◌≡◌, true, None, IfOk};
-ghost use Rattle.fuse_device.specs.Promises.{world};
-ghost use Rattle.guest_wire.specs.Wires.{IsStep, world_at};
-ghost use Rattle.dax_host.specs.Solo.{solo_wire};
+ghost use Rattle.std.specs.Prelude.{◌≡◌, true, false, None, IfOk};
+ghost use Rattle.dax_host.specs.Queue.{fresh_queue};
+ghost use Rattle.dax_host.specs.Solo.{solo_wire, solo_queue, SoloGives};
 
 use crate::queue::Queue;
 use daemon_core::Daemon;
@@ -9,9 +8,13 @@ use guest_wire::{Wire, WireError};
 use page_map::MapBoard;
 use plain_file::{Blob, FileBoard, Memory};
 use std::alloc::Global;
+use std::sync::Wait;
 
 /// A wire to a daemon in the caller's thread: each request goes through a split virtqueue (VIRTIO 1.2
-/// section 2.7) and back. It is honest, and never fails.
+/// section 2.7) and back. It is honest, never fails, and doesn't wait.
+///
+/// What it gives for a request says what becomes of the queue's memory and of both its sides: the request
+/// was offered, popped, answered by the bytes of the daemon's step, pushed and taken back.
 #[derive(Drop)]
 pub struct SoloWire<'a> {
     daemon: &'a mut Daemon,
@@ -19,10 +22,11 @@ pub struct SoloWire<'a> {
 }
 
 impl<'a> SoloWire<'a> {
-    /// A wire to this daemon, with a queue and a memory of its own. `Memory` comes where an
-    /// allocation was refused.
+    /// A wire to this daemon, with a queue of its own: it has four descriptors, nothing was offered yet,
+    /// and its memory is all 0. `Memory` comes where an allocation was refused.
     pub fn new(alloc: Global, daemon: &'a mut Daemon) -> Result<SoloWire<'a>, Memory>
-        ensures { IfOk result (λ w. solo_wire w ≡ record { honest = true; over = None; faults = 0; state = daemon.old }) }
+        ensures wire { IfOk result (λ w. solo_wire w ≡ record { honest = true; over = None; faults = 0; stays = false; state = daemon.old }) }
+        ensures queue { IfOk result (λ w. solo_queue w ≡ fresh_queue 4) }
     {
         let queue = Queue::new(alloc)?;
         Ok(SoloWire { daemon, queue })
@@ -32,19 +36,18 @@ impl<'a> SoloWire<'a> {
 impl<'a, F: FileBoard, M: MapBoard> Wire<F, M> for SoloWire<'a> {
     ghost wire = { solo_wire };
 
-    ghost gives = { λ before old sent bytes after new. IsStep (world_at (solo_wire before) old) sent bytes (world_at (solo_wire after) new) };
+    ghost gives = { SoloGives };
 
-    fn submit(
+    fn submit<R: Wait>(
         &mut self,
+        _rt: &R,
         alloc: Global,
         readable: &[u8],
         room: u32,
         files: &mut F,
         map: &mut M,
     ) -> Result<Blob, WireError> {
-        Ok(
-            self.queue
-                .carry(alloc, self.daemon, readable, room, files, map)?,
-        )
+        self.queue
+            .carry(alloc, self.daemon, readable, room, files, map)
     }
 }

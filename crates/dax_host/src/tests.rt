@@ -11,6 +11,7 @@ use guest_wire::{Driver, FileRef, WireRefusal};
 use page_map::{Mode, Page, PageMap};
 use plain_file::{Blob, First, List, Memory, Name, PlainFiles};
 use std::alloc::Global;
+use std::sync::Wait;
 use std::test::Fail;
 
 // One file's name: "a".
@@ -63,7 +64,8 @@ enum Call<'a> {
 }
 
 // Makes a call, about file "a" and its handle.
-fn make(
+fn make<R: Wait>(
+    rt: &R,
     alloc: Global,
     client: &mut Client,
     files: &mut PlainFiles,
@@ -74,24 +76,24 @@ fn make(
     ensures { IsServable (world client.new.wire.daemon.now files.new map.new) }
 {
     match call {
-        Call::Init => client.init(alloc, true, files, map).map(Reply::Init),
-        Call::Lookup(name) => client.lookup(alloc, name, files, map).map(Reply::Entry),
-        Call::OpenFile => client.open_file(alloc, 2, files, map).map(opened),
-        Call::Write => client.write(alloc, A, 3, b"hello", files, map).map(wrote),
+        Call::Init => client.init(rt, alloc, true, files, map).map(Reply::Init),
+        Call::Lookup(name) => client.lookup(rt, alloc, name, files, map).map(Reply::Entry),
+        Call::OpenFile => client.open_file(rt, alloc, 2, files, map).map(opened),
+        Call::Write => client.write(rt, alloc, A, 3, b"hello", files, map).map(wrote),
         Call::Read => client
-            .read(alloc, A, 0, 1_048_576, files, map)
+            .read(rt, alloc, A, 0, 1_048_576, files, map)
             .map(Reply::Bytes),
         Call::ReadClosed => client
-            .read(alloc, FileRef { node: 2, fh: 9 }, 0, 1, files, map)
+            .read(rt, alloc, FileRef { node: 2, fh: 9 }, 0, 1, files, map)
             .map(Reply::Bytes),
         Call::SetattrSize => client
-            .setattr_size(alloc, A, 4, files, map)
+            .setattr_size(rt, alloc, A, 4, files, map)
             .map(Reply::Attr),
-        Call::Getattr => client.getattr(alloc, A, files, map).map(Reply::Attr),
-        Call::Setup => client.setup(alloc, 2, 1, 2, Mode::W, files, map).map(done),
-        Call::Remove => client.remove(alloc, 2, 2, files, map).map(done),
-        Call::Release => client.release(alloc, A, files, map).map(done),
-        Call::Destroy => client.destroy(alloc, files, map).map(done),
+        Call::Getattr => client.getattr(rt, alloc, A, files, map).map(Reply::Attr),
+        Call::Setup => client.setup(rt, alloc, 2, 1, 2, Mode::W, files, map).map(done),
+        Call::Remove => client.remove(rt, alloc, 2, 2, files, map).map(done),
+        Call::Release => client.release(rt, alloc, A, files, map).map(done),
+        Call::Destroy => client.destroy(rt, alloc, files, map).map(done),
     }
 }
 
@@ -202,7 +204,7 @@ fn session(rt: HostRuntime) -> Result<(), Fail> {
         (Call::Destroy, Ok(Reply::Done), None),
     ];
     for (call, wanted, page) in &cases {
-        let answer = make(alloc, &mut client, &mut files, &mut map, call);
+        let answer = make(&rt, alloc, &mut client, &mut files, &mut map, call);
         assert_eq!(rt; &answer, wanted);
         assert_eq!(rt; map.find(4_194_304 + 5), *page);
     }

@@ -40,37 +40,37 @@ pub read-requires-in-ReadClosed-clause-boards : goal.read-requires-in-ReadClosed
 read-requires-in-ReadClosed-clause-boards c = λ _. servable_serves _ _ _ _ c.requires
 
 pub returns-in-Init : goal.returns-in-Init
-returns-in-Init c = IsServable-answer _ _ _ _ _ _ _ _ _ c.init.ensures.answer refl c.requires
+returns-in-Init c = IsServable-answer _ _ _ _ _ _ _ _ _ c.init.ensures.answer refl refl c.requires
 
 pub returns-in-Lookup : goal.returns-in-Lookup
-returns-in-Lookup c = IsServable-answer _ _ _ _ _ _ _ _ _ c.lookup.ensures.answer refl c.requires
+returns-in-Lookup c = IsServable-answer _ _ _ _ _ _ _ _ _ c.lookup.ensures.answer refl refl c.requires
 
 pub returns-in-SetattrSize : goal.returns-in-SetattrSize
-returns-in-SetattrSize c = IsServable-answer _ _ _ _ _ _ _ _ _ c.setattr_size.ensures.answer refl c.requires
+returns-in-SetattrSize c = IsServable-answer _ _ _ _ _ _ _ _ _ c.setattr_size.ensures.answer refl refl c.requires
 
 pub returns-in-Getattr : goal.returns-in-Getattr
-returns-in-Getattr c = IsServable-answer _ _ _ _ _ _ _ _ _ c.getattr.ensures.answer refl c.requires
+returns-in-Getattr c = IsServable-answer _ _ _ _ _ _ _ _ _ c.getattr.ensures.answer refl refl c.requires
 
 pub returns-in-Remove : goal.returns-in-Remove
-returns-in-Remove c = IsServable-answer _ _ _ _ _ _ _ _ _ c.remove.ensures.answer refl c.requires
+returns-in-Remove c = IsServable-answer _ _ _ _ _ _ _ _ _ c.remove.ensures.answer refl refl c.requires
 
 pub returns-in-Release : goal.returns-in-Release
-returns-in-Release c = IsServable-answer _ _ _ _ _ _ _ _ _ c.release.ensures.answer refl c.requires
+returns-in-Release c = IsServable-answer _ _ _ _ _ _ _ _ _ c.release.ensures.answer refl refl c.requires
 
 pub returns-in-OpenFile : goal.returns-in-OpenFile
-returns-in-OpenFile c = IsServable-answer _ _ _ _ _ _ _ _ _ c.open_file.ensures.answer refl c.requires
+returns-in-OpenFile c = IsServable-answer _ _ _ _ _ _ _ _ _ c.open_file.ensures.answer refl refl c.requires
 
 pub returns-in-Write : goal.returns-in-Write
-returns-in-Write c = IsServable-answer _ _ _ _ _ _ _ _ _ c.write.ensures.answer refl c.requires
+returns-in-Write c = IsServable-answer _ _ _ _ _ _ _ _ _ c.write.ensures.answer refl refl c.requires
 
 pub returns-in-Read : goal.returns-in-Read
-returns-in-Read c = IsServable-answer _ _ _ _ _ _ _ _ _ c.read.ensures.answer refl c.requires
+returns-in-Read c = IsServable-answer _ _ _ _ _ _ _ _ _ c.read.ensures.answer refl refl c.requires
 
 pub returns-in-ReadClosed : goal.returns-in-ReadClosed
-returns-in-ReadClosed c = IsServable-answer _ _ _ _ _ _ _ _ _ c.read-in-ReadClosed.ensures.answer refl c.requires
+returns-in-ReadClosed c = IsServable-answer _ _ _ _ _ _ _ _ _ c.read-in-ReadClosed.ensures.answer refl refl c.requires
 
 pub returns-in-Setup : goal.returns-in-Setup
-returns-in-Setup c = IsServable-answer _ _ _ _ _ _ _ _ _ c.setup.ensures.answer refl c.requires
+returns-in-Setup c = IsServable-answer _ _ _ _ _ _ _ _ _ c.setup.ensures.answer refl refl c.requires
 
 pub returns-in-Destroy : goal.returns-in-Destroy
-returns-in-Destroy c = IsServable-answer _ _ _ _ _ _ _ _ _ c.destroy.ensures.answer refl c.requires
+returns-in-Destroy c = IsServable-answer _ _ _ _ _ _ _ _ _ c.destroy.ensures.answer refl refl c.requires

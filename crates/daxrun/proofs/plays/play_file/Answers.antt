@@ -43,10 +43,10 @@ play_guests-requires-clause-small c = small-new c.args.file.now.first _ c.in_ok-
 
 -- the wire hands requests to a new daemon, over boards on which nothing was done
 pub play_guests-requires-clause-new : goal.play_guests-requires-clause-new
-play_guests-requires-clause-new c = ap (λ d. d.wire.daemon.now) c.new-client.ensures ∙ ap (λ w. w.state) c.in_ok-new.ensures ∙ c.in_ok-daemon.ensures
+play_guests-requires-clause-new c = ap (λ d. d.wire.daemon.now) c.new-client.ensures ∙ ap (λ w. w.state) c.in_ok-new.ensures.wire ∙ c.in_ok-daemon.ensures
 
 pub play_guests-requires-clause-live : goal.play_guests-requires-clause-live
 play_guests-requires-clause-live c =
     let f = c.args.file.now in
-    let state : c.new-client.result.wire.daemon.now ≡ new_state 0 (f.name ∷ []) = ap (λ d. d.wire.daemon.now) c.new-client.ensures ∙ ap (λ w. w.state) c.in_ok-new.ensures ∙ c.in_ok-daemon.ensures in
+    let state : c.new-client.result.wire.daemon.now ≡ new_state 0 (f.name ∷ []) = ap (λ d. d.wire.daemon.now) c.new-client.ensures ∙ ap (λ w. w.state) c.in_ok-new.ensures.wire ∙ c.in_ok-daemon.ensures in
     record { honest = refl; servable = servable-new f.name f.first _ _ _ state c.in_ok-files.ensures.value c.in_ok-map.ensures.new }

@@ -1,0 +1,109 @@
+-- What is read of a request that goes through an idle queue.
+use Rattle.std.proofs.Common.{◌≡◌, ◌∙◌, ap, refl, subst, ◌+◌, ◌*◌, ◌%◌, ◌^◌, ◌<◌, ◌≤◌, ℕ, List, [], ◌∷◌, ◌++◌, length, Some, Ok, arith}
+use Rattle.std.specs.Int.{w16, w32, to_le_bytes}
+use Rattle.std.proofs.lemmas.List.{take_all, length-replicate}
+use Rattle.plain_file.specs.Limits.{max_part}
+use Rattle.vring.specs.Bytes.{put_at}
+use Rattle.vring.specs.Driver.{IsOffer, IsQueueSize, driver_layout, offered_room, used_at, writable_at, written_in}
+use Rattle.vring.specs.Pieces.{scattered}
+use Rattle.vring.specs.Ring.{RingView, next_index, used_pushed}
+use Rattle.vring.proofs.PutLemmas.{length-put_at}
+use Rattle.vring.proofs.Offers.{offer_read, offer_found, offer_gathered, back_taken, back_written}
+use Rattle.dax_host.specs.Queue.{QueueView, IsIdle, after_offer, carried, given_up, fresh_queue}
+use Rattle.dax_host.specs.Rounds.{MayOffer, IsRead}
+
+-- the request may be offered
+offer_of : (q : QueueView) (readable : List ℕ) (room : ℕ) → MayOffer q readable room → IsOffer q.driver.size q.driver.offered (length readable) room
+offer_of q readable room h = record { size_is = h.idle.set_up.size; offered_is = h.index; len_is = h.len; room_is = h.most }
+
+-- one piece takes all bytes that it has room for
+scattered_one : (mem bytes : List ℕ) (addr room : ℕ) → length bytes ≤ room → scattered mem (record { addr = addr; len = room } ∷ []) bytes ≡ put_at mem addr bytes
+unfolding scattered
+scattered_one mem bytes addr room h = ap (put_at mem addr) (take_all room bytes h)
+
+-- each step leaves the memory's length
+length-offered : (q : QueueView) (readable : List ℕ) (room : ℕ) → MayOffer q readable room → length (after_offer q readable room).memory ≡ (driver_layout q.driver.size).memory
+length-offered q readable room h = (offer_read q.driver q.memory readable room (offer_of q readable room h) h.idle.set_up.len).length_is
+
+length-scattered : (mem bytes : List ℕ) (size room : ℕ) → length bytes ≤ room → room ≤ max_part → length mem ≡ (driver_layout size).memory → length (scattered mem (offered_room size room) bytes) ≡ length mem
+length-scattered mem bytes size room fits small len =
+    ap length (scattered_one mem bytes (writable_at size) room fits) ∙ length-put_at mem (writable_at size) bytes (omega (arith, fits, small, len))
+
+length-pushed : (r : RingView) (mem : List ℕ) (size head len : ℕ) → IsQueueSize size → r.layout ≡ driver_layout size → length mem ≡ (driver_layout size).memory → length (used_pushed r mem head len) ≡ length mem
+length-pushed r mem size head len s layout whole =
+    let at = 20 * size + 8 + 4 + 8 * (r.used_index % size) in
+    let place : r.used_index % size < size = omega (arith, s.least) in
+    let entry = to_le_bytes w32 head ++ to_le_bytes w32 len in
+    let a = put_at mem at entry in
+    let a_len : length a ≡ length mem = length-put_at mem at entry (omega arith) in
+    rw layout (length-put_at a (20 * size + 8 + 2) (to_le_bytes w16 (next_index r.used_index)) (omega arith) ∙ a_len)
+
+length-answered : (q : QueueView) (readable : List ℕ) (room : ℕ) (answer : List ℕ) → MayOffer q readable room → length answer ≤ room → length (scattered (after_offer q readable room).memory (offered_room q.driver.size room) answer) ≡ (driver_layout q.driver.size).memory
+length-answered q readable room answer h fits =
+    length-scattered (after_offer q readable room).memory answer q.driver.size room fits h.most (length-offered q readable room h) ∙ length-offered q readable room h
+
+pub carried_idle : (q : QueueView) (readable : List ℕ) (room : ℕ) (answer : List ℕ) → MayOffer q readable room → length answer ≤ room → IsIdle (carried q readable room answer)
+unfolding carried
+carried_idle q readable room answer h fits =
+    let up = h.idle.set_up in
+    let whole = length-answered q readable room answer h fits in
+    record {
+      set_up = record {
+        size = up.size;
+        layout = up.layout;
+        len = length-pushed q.ring _ q.driver.size 0 (length answer) up.size up.layout whole ∙ whole;
+        used = ap next_index up.used;
+      };
+      seen = ap next_index h.idle.seen;
+      even = ap next_index h.idle.even;
+      free = refl;
+    }
+
+pub given_up_idle : (q : QueueView) (readable : List ℕ) (room : ℕ) → MayOffer q readable room → IsIdle (given_up q readable room)
+unfolding given_up
+given_up_idle q readable room h =
+    let up = h.idle.set_up in
+    let whole = length-offered q readable room h in
+    record {
+      set_up = record {
+        size = up.size;
+        layout = up.layout;
+        len = length-pushed q.ring _ q.driver.size 0 0 up.size up.layout whole ∙ whole;
+        used = ap next_index up.used;
+      };
+      seen = ap next_index h.idle.seen;
+      even = ap next_index h.idle.even;
+      free = refl;
+    }
+
+pub fresh_idle : (size : ℕ) → IsQueueSize size → IsIdle (fresh_queue size)
+unfolding fresh_queue
+fresh_idle size s = record { set_up = record { size = s; layout = refl; len = length-replicate _ 0; used = refl }; seen = refl; even = refl; free = refl }
+
+-- the driver finds the entry of its chain
+entry_read : (q : QueueView) (readable : List ℕ) (room : ℕ) (answer : List ℕ) → MayOffer q readable room → length answer ≤ room → used_at (carried q readable room answer).memory q.driver.size q.driver.taken (Some room) ≡ Ok (Some (record { head = 0; len = length answer }))
+unfolding carried
+entry_read q readable room answer h fits =
+    let up = h.idle.set_up in
+    let index : q.ring.used_index < 2 ^ 16 = rw (up.used, h.idle.even) h.index in
+    let read = back_taken (scattered (after_offer q readable room).memory (offered_room q.driver.size room) answer) q.ring q.driver.size room (length answer) up.size up.layout index fits h.most (length-answered q readable room answer h fits) in
+    subst (λ n. used_at (carried q readable room answer).memory q.driver.size n (Some room) ≡ Ok (Some (record { head = 0; len = length answer }))) up.used read
+
+-- .. and in the room the answer
+reply_read : (q : QueueView) (readable : List ℕ) (room : ℕ) (answer : List ℕ) → MayOffer q readable room → length answer ≤ room → written_in (carried q readable room answer).memory q.driver.size (length answer) ≡ answer
+unfolding carried
+reply_read q readable room answer h fits =
+    let up = h.idle.set_up in
+    back_written (after_offer q readable room).memory answer (offered_room q.driver.size room) q.ring q.driver.size room 0 (length answer) (length answer) up.size up.layout refl refl fits h.most (length-offered q readable room h)
+
+pub carried_read : (q : QueueView) (readable : List ℕ) (room : ℕ) (answer : List ℕ) → MayOffer q readable room → length answer ≤ room → IsRead q readable room answer
+carried_read q readable room answer h fits =
+    let up = h.idle.set_up in
+    let offer = offer_of q readable room h in
+    record {
+      chain = rw (up.layout, h.idle.seen) (offer_found q.driver q.memory readable room offer up.len);
+      request = offer_gathered q.driver q.memory readable room offer up.len;
+      entry = entry_read q readable room answer h fits;
+      reply = reply_read q readable room answer h fits;
+      idle = carried_idle q readable room answer h fits;
+    }

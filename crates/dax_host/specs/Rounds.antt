@@ -1,0 +1,35 @@
+-- What each side of a queue reads of a request that goes through it.
+use Rattle.std.specs.Prelude.{◌≡◌, ℕ, ◌^◌, ◌<◌, ◌≤◌, List, length, Some, Ok}
+use Rattle.plain_file.specs.Limits.{max_part}
+use Rattle.vring.specs.Chain.{chain_at}
+use Rattle.vring.specs.Driver.{IsQueueSize, offered_chain, used_at, written_in}
+use Rattle.vring.specs.Pieces.{gathered}
+use Rattle.dax_host.specs.Queue.{QueueView, IsIdle, fresh_queue, after_offer, carried, given_up}
+
+-- a queue in which these bytes may be offered, with so much room
+pub record MayOffer (q : QueueView) (readable : List ℕ) (room : ℕ) : Type 0 where
+  pub idle : IsIdle q
+  pub index : q.driver.offered < 2 ^ 16
+  pub len : length readable ≤ max_part
+  pub most : room ≤ max_part
+
+-- The device finds the chain that was offered, and in it the request's bytes. The driver finds the entry
+-- of this chain with the answer's length, and in the room the answer. Then the queue is idle.
+pub record IsRead (q : QueueView) (readable : List ℕ) (room : ℕ) (answer : List ℕ) : Type 0 where
+  pub chain : chain_at (after_offer q readable room).memory q.ring.layout q.ring.seen ≡ Ok (Some (offered_chain q.driver.size (length readable) room))
+  pub request : gathered (after_offer q readable room).memory (offered_chain q.driver.size (length readable) room).readable ≡ readable
+  pub entry : used_at (carried q readable room answer).memory q.driver.size q.driver.taken (Some room) ≡ Ok (Some (record { head = 0; len = length answer }))
+  pub reply : written_in (carried q readable room answer).memory q.driver.size (length answer) ≡ answer
+  pub idle : IsIdle (carried q readable room answer)
+
+-- what goes through an idle queue is read on its other side, where the room takes the answer
+abbrev pub CarriedIsRead : Type 0
+CarriedIsRead = (q : QueueView) (readable : List ℕ) (room : ℕ) (answer : List ℕ) → MayOffer q readable room → length answer ≤ room → IsRead q readable room answer
+
+-- a request that is given up leaves an idle queue
+abbrev pub GivenUpIsIdle : Type 0
+GivenUpIsIdle = (q : QueueView) (readable : List ℕ) (room : ℕ) → MayOffer q readable room → IsIdle (given_up q readable room)
+
+-- a queue in which nothing was offered yet is idle
+abbrev pub FreshIsIdle : Type 0
+FreshIsIdle = (size : ℕ) → IsQueueSize size → IsIdle (fresh_queue size)
