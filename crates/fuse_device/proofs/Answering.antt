@@ -28,6 +28,7 @@ use Rattle.fuse_codec.proofs.RequestLaws.{message_found, message_again, opcode_a
 use Rattle.fuse_device.specs.State.{World}
 use Rattle.fuse_device.specs.Checks.{Outcome, refuse}
 use Rattle.fuse_device.specs.Requests.{is_init, is_forget, served}
+use Rattle.fuse_device.specs.DataSteps.{is_data, data_judged_message, data_judged, data_step}
 use Rattle.fuse_device.specs.Steps.{Step, wanted_room, reply_to, errno_of, judged_message, judged, replied, header_at, is_forget_number, forgot, device_step}
 use Rattle.fuse_device.proofs.OpenHandles.{header_at-spelled, length-spelled, forget_number, least_room}
 use Rattle.fuse_device.proofs.Receiving.{form_again}
@@ -98,15 +99,24 @@ judged_to form w room (Ok m) roomy is =
     either_to form room (nat_lt room (wanted_room m.body)) errnos.EINVAL w (served w m) roomy (λ enough.
     outcome_to form room m.body (served w m) roomy is (ltb-false _ _ enough) (served_ok w m)))
 
+-- the same where the device stays as it is
+data_judged_to : (form : ReplyForm) (w : World) (room : ℕ) (d : Result Message BadRequest) → 16 ≤ room → IfOk d (λ m. request_form m.body ≡ form) → IsReplyTo form room (reply_to (data_judged w room d).0)
+unfolding data_judged_message
+data_judged_to form w room (Err bad) roomy is = refused_to form room (errno_of bad) roomy
+data_judged_to form w room (Ok m) roomy is = either_to form room (not (is_data m.body)) errnos.ENOSYS w (judged_message w room m) roomy (λ _. judged_to form w room (Ok m) roomy is)
+
 -- ---- how long an answer is
 
 judged_fits : (w : World) (room : ℕ) (d : Result Message BadRequest) → 16 ≤ room → reply_len (reply_to (judged w room d).0) ≤ room
 judged_fits w room (Err bad) roomy = (judged_to forms.Done w room (Err bad) roomy tt).fits
 judged_fits w room (Ok m) roomy = (judged_to (request_form m.body) w room (Ok m) roomy refl).fits
 
-replied_fits : (w : World) (readable : List ℕ) (room : ℕ) → 16 ≤ room → length (replied (header_at readable).unique (judged w room (message_of readable))).1 ≤ room
-replied_fits w readable room roomy =
-    omega (arith, length-clean_reply (header_at readable).unique (reply_to (judged w room (message_of readable)).0), judged_fits w room (message_of readable) roomy)
+data_judged_fits : (w : World) (room : ℕ) (d : Result Message BadRequest) → 16 ≤ room → reply_len (reply_to (data_judged w room d).0) ≤ room
+data_judged_fits w room (Err bad) roomy = (data_judged_to forms.Done w room (Err bad) roomy tt).fits
+data_judged_fits w room (Ok m) roomy = (data_judged_to (request_form m.body) w room (Ok m) roomy refl).fits
+
+replied_fits : (unique room : ℕ) (o : Outcome) → reply_len (reply_to o.0) ≤ room → length (replied unique o).1 ≤ room
+replied_fits unique room o h = omega (arith, length-clean_reply unique (reply_to o.0), h)
 
 if_fits : (room : ℕ) (b : Bool) (x y : Step) → length x.1 ≤ room → (b ≡ false → length y.1 ≤ room) → length (if b then x else y).1 ≤ room
 if_fits room true x y h k = h
@@ -124,7 +134,20 @@ device_step_fits w readable room =
     let zero_fits : 0 ≤ room = omega arith in
     if_fits room (nat_lt (length readable) 40) none long zero_fits (λ _.
     if_fits room (is_forget_number (header_at readable).opcode) forget roomy zero_fits (λ _.
-    if_fits room (nat_lt room 16) none reply zero_fits (λ r. replied_fits w readable room (ltb-false _ _ r))))
+    if_fits room (nat_lt room 16) none reply zero_fits (λ r. replied_fits (header_at readable).unique room (judged w room (message_of readable)) (judged_fits w room (message_of readable) (ltb-false _ _ r)))))
+
+-- the same where the device stays as it is
+pub data_step_fits : (w : World) (readable : List ℕ) (room : ℕ) → length (data_step w readable room).1 ≤ room
+unfolding data_step
+data_step_fits w readable room =
+    let none : Step = (w, []) in
+    let reply : Step = replied (header_at readable).unique (data_judged w room (message_of readable)) in
+    let roomy : Step = if nat_lt room 16 then none else reply in
+    let long : Step = if is_forget_number (header_at readable).opcode then none else roomy in
+    let zero_fits : 0 ≤ room = omega arith in
+    if_fits room (nat_lt (length readable) 40) none long zero_fits (λ _.
+    if_fits room (is_forget_number (header_at readable).opcode) none roomy zero_fits (λ _.
+    if_fits room (nat_lt room 16) none reply zero_fits (λ r. replied_fits (header_at readable).unique room (data_judged w room (message_of readable)) (data_judged_fits w room (message_of readable) (ltb-false _ _ r)))))
 
 -- ---- what an answer is
 
@@ -171,17 +194,46 @@ device_step_replies w readable room fits within =
     if_reads readable (nat_lt room 16) none reply (inl refl) (λ r.
     replied_reads w readable room fits within (ltb-false _ _ l) (ltb-false _ _ r))))
 
--- an answer to a spelled request, with room for its reply, is read as a reply to it
+-- ---- an answer to a spelled request, with room for its reply
+
+-- its header is long enough, has its number and no forget's, and there is room for a reply's header
+record HasFront (m : Message) (readable : List ℕ) (room : ℕ) : Type 0 where
+  pub long : nat_lt (length readable) 40 ≡ false
+  pub forget : is_forget_number (header_at readable).opcode ≡ false
+  pub some : nat_lt room 16 ≡ false
+  pub roomy : 16 ≤ room
+  pub read : message_of readable ≡ Ok m
+  pub unique : (header_at readable).unique ≡ m.head.unique
+  pub own : request_form m.body ≡ reply_form (kind_of m.body)
+
+has_front : (m : Message) (readable : List ℕ) (room : ℕ) → Spells m readable → is_forget m.body ≡ false → wanted_room m.body ≤ room → HasFront m readable room
+has_front m readable room s has_reply fits =
+    let roomy : 16 ≤ room = omega (arith, fits, least_room (reply_form (kind_of m.body)) (asked m.body)) in
+    let head = header_at-spelled m readable s in
+    record {
+      long = le-ltb _ _ (length-spelled m readable s);
+      forget = ap (λ (h : InHeader). is_forget_number h.opcode) head ∙ forget_number m.body ∙ has_reply;
+      some = le-ltb _ _ roomy;
+      roomy = roomy;
+      read = message_again m readable s;
+      unique = ap (λ (h : InHeader). h.unique) head;
+      own = rw (form_again m.body has_reply) refl;
+    }
+
+-- it is read as a reply to the request
 pub device_step_answers : (w : World) (m : Message) (readable : List ℕ) (room : ℕ) → Spells m readable → is_forget m.body ≡ false → wanted_room m.body ≤ room → m.head.unique < 2 ^ 64
     → ReadsTo (reply_form (kind_of m.body)) m.head.unique (device_step w readable room).1
 unfolding device_step
 device_step_answers w m readable room s has_reply fits narrow =
-    let roomy : 16 ≤ room = omega (arith, fits, least_room (reply_form (kind_of m.body)) (asked m.body)) in
-    let long : nat_lt (length readable) 40 ≡ false = le-ltb _ _ (length-spelled m readable s) in
-    let head = header_at-spelled m readable s in
-    let forget : is_forget_number (header_at readable).opcode ≡ false = ap (λ (h : InHeader). is_forget_number h.opcode) head ∙ forget_number m.body ∙ has_reply in
-    let some : nat_lt room 16 ≡ false = le-ltb _ _ roomy in
-    let unique : (header_at readable).unique ≡ m.head.unique = ap (λ (h : InHeader). h.unique) head in
-    let own : request_form m.body ≡ reply_form (kind_of m.body) = rw (form_again m.body has_reply) refl in
-    let h = judged_to (reply_form (kind_of m.body)) w room (Ok m) roomy own in
-    rw (long, forget, some, message_again m readable s, unique) (clean_reply_read (reply_form (kind_of m.body)) m.head.unique (reply_to (judged w room (Ok m)).0) narrow h.good h.formed)
+    let f = has_front m readable room s has_reply fits in
+    let h = judged_to (reply_form (kind_of m.body)) w room (Ok m) f.roomy f.own in
+    rw (f.long, f.forget, f.some, f.read, f.unique) (clean_reply_read (reply_form (kind_of m.body)) m.head.unique (reply_to (judged w room (Ok m)).0) narrow h.good h.formed)
+
+-- the same where the device stays as it is
+pub data_step_answers : (w : World) (m : Message) (readable : List ℕ) (room : ℕ) → Spells m readable → is_forget m.body ≡ false → wanted_room m.body ≤ room → m.head.unique < 2 ^ 64
+    → ReadsTo (reply_form (kind_of m.body)) m.head.unique (data_step w readable room).1
+unfolding data_step
+data_step_answers w m readable room s has_reply fits narrow =
+    let f = has_front m readable room s has_reply fits in
+    let h = data_judged_to (reply_form (kind_of m.body)) w room (Ok m) f.roomy f.own in
+    rw (f.long, f.forget, f.some, f.read, f.unique) (clean_reply_read (reply_form (kind_of m.body)) m.head.unique (reply_to (data_judged w room (Ok m)).0) narrow h.good h.formed)
