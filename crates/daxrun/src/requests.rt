@@ -37,7 +37,7 @@ where
         ≡ record (world_at (W.wire client.old.wire) (boards files.old map.old)) { state = begun (W.wire client.old.wire).state }) }
     ensures number { client.new.unique ≡ next_number client.old.unique }
 {
-    finish(client.init(rt, alloc, false, files, map))?;
+    succeed(client.init(rt, alloc, false, files, map))?;
     Ok(())
 }
 
@@ -62,7 +62,7 @@ where
         ≡ record (world_at (W.wire client.old.wire) (boards files.old map.old)) { state = looked_up (W.wire client.old.wire).state i }) }
     ensures number { client.new.unique ≡ next_number client.old.unique }
 {
-    let entry = finish(client.lookup(rt, alloc, name, files, map))?;
+    let entry = succeed(client.lookup(rt, alloc, name, files, map))?;
     Ok(entry.nodeid)
 }
 
@@ -89,7 +89,7 @@ where
         ≡ record (world_at (W.wire client.old.wire) (boards files.old map.old)) { state = with_open (W.wire client.old.wire).state node }) }
     ensures number { client.new.unique ≡ next_number client.old.unique }
 {
-    let fh = finish(client.open_file(rt, alloc, node, files, map))?;
+    let fh = succeed(client.open_file(rt, alloc, node, files, map))?;
     Ok(fh)
 }
 
@@ -117,8 +117,8 @@ where
         ≡ record (world_at (W.wire client.old.wire) (boards files.old map.old)) { files = applied files.old (at.node - 2) (ops.Read off len) }) }
     ensures number { client.new.unique ≡ next_number client.old.unique }
 {
-    let bytes = finish(client.read(rt, alloc, at, off, len, files, map))?;
-    look(bytes.as_slice());
+    let bytes = succeed(client.read(rt, alloc, at, off, len, files, map))?;
+    sound(bytes.as_slice());
     Ok(bytes)
 }
 
@@ -146,12 +146,12 @@ where
         ≡ record (world_at (W.wire client.old.wire) (boards files.old map.old)) { files = applied files.old (at.node - 2) (ops.Write off bytes.now) }) }
     ensures number { client.new.unique ≡ next_number client.old.unique }
 {
-    let size = finish(client.write(rt, alloc, at, off, bytes, files, map))?;
+    let size = succeed(client.write(rt, alloc, at, off, bytes, files, map))?;
     Ok(size)
 }
 
 // The answer to a request that succeeds.
-fn finish<T>(answer: Result<T, WireRefusal>) -> Result<T, Memory>
+fn succeed<T>(answer: Result<T, WireRefusal>) -> Result<T, Memory>
     requires { IsDoneOrMemory answer }
     ensures { IfOk result (λ it. answer ≡ Ok it) }
 {
@@ -163,6 +163,6 @@ fn finish<T>(answer: Result<T, WireRefusal>) -> Result<T, Memory>
 }
 
 // Does nothing. That is how a proof knows that each of them is a byte.
-fn look(bytes: &[u8])
+fn sound(bytes: &[u8])
     ensures { AllByRecursion (λ b. b < 256) bytes.now }
 {}

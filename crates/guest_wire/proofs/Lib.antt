@@ -3,4 +3,3 @@ pub mod Carrying
 pub mod Judging
 pub mod Hearing
 pub mod Serving
-pub mod Carrying

@@ -73,10 +73,10 @@ JudgesOrNot reply bytes (Err refusals.Memory) = Unit {0}
 JudgesOrNot reply bytes result = Judges SaysItself reply bytes result
 
 -- a success, or an error's number
-abbrev pub IsSplit : Reply → Result Reply WireRefusal → Type 0
-IsSplit reply (Ok r) = r ≡ reply
-IsSplit reply (Err (refusals.Errno number)) = reply ≡ replies.Error number
-IsSplit reply (Err e) = ⊥
+abbrev pub IsSuccessOrErrno : Reply → Result Reply WireRefusal → Type 0
+IsSuccessOrErrno reply (Ok r) = r ≡ reply
+IsSuccessOrErrno reply (Err (refusals.Errno number)) = reply ≡ replies.Error number
+IsSuccessOrErrno reply (Err e) = ⊥
 
 -- What a call answers whose request succeeds with this reply, and leaves: a value that says the reply, and this device; or want of memory.
 abbrev pub Succeeded : {V : Type 0} → (V → Reply → Type 0) → Reply → World → Result V WireRefusal → World → Type 0

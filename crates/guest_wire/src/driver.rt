@@ -11,7 +11,7 @@ ghost use Rattle.fuse_device.specs.Steps.{wanted_room};
 ghost use Rattle.guest_wire.specs.Wires.{boards, KeepsWire};
 ghost use Rattle.guest_wire.specs.Keeps.{KeepsBoards};
 ghost use Rattle.guest_wire.specs.Requests.{next_number, message, CanAsk};
-ghost use Rattle.guest_wire.specs.Answers.{Answers, SaysItself, JudgesOrNot, IsSplit, heard, numbered};
+ghost use Rattle.guest_wire.specs.Answers.{Answers, SaysItself, JudgesOrNot, IsSuccessOrErrno, heard, numbered};
 
 use crate::wires::{Wire, WireError, WireRefusal};
 use fuse_codec::{BadReply, Head, Message, Opcode, Reply, Request, decode_reply, encode_request};
@@ -177,7 +177,7 @@ fn judge(
             if number != unique {
                 return Err(WireRefusal::BadReply { bytes });
             }
-            split(reply)
+            success_of(reply)
         }
         Err(BadReply::Memory) => Err(WireRefusal::Memory),
         Err(
@@ -188,8 +188,8 @@ fn judge(
 
 // A success, or the error's number.
 #[tactic(auto, unfolding(fuse_codec::specs::Replies::form_of))]
-fn split(reply: Reply) -> Result<Reply, WireRefusal>
-    ensures value { IsSplit reply result }
+fn success_of(reply: Reply) -> Result<Reply, WireRefusal>
+    ensures value { IsSuccessOrErrno reply result }
     ensures success { IfOk result (λ r. IsSome (form_of r)) }
 {
     match reply {

@@ -1,4 +1,5 @@
 ghost use Rattle.std.specs.Prelude.{◌≡◌, ◌≤◌, ℕ, List, Result, length, true};
+ghost use Rattle.guest_wire.specs.declared.wires.WireError.{WireError};
 ghost use Rattle.plain_file.specs.Limits.{max_part};
 ghost use Rattle.guest_wire.specs.Wires.{WireView, Boards, Sent, boards, sending, world_at, CanSubmit, KeepsWire, Honest, HasCause};
 ghost use Rattle.guest_wire.specs.Keeps.{KeepsBoards};

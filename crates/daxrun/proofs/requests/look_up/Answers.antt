@@ -8,8 +8,8 @@ use Rattle.daxrun.proofs.requests.look_up.Goals as goal
 pub lookup-requires : goal.lookup-requires
 lookup-requires g c = record { boards = CanAsk-servable _ _ _ c.requires.live.whole c.requires.live.servable }
 
-pub finish-requires : goal.finish-requires
-finish-requires g c =
+pub succeed-requires : goal.succeed-requires
+succeed-requires g c =
     let there = c.requires.there in
     done_or_memory _ _ _ _ _ (finds _ _ _ _ _ _ there.0 _ _ _ c.lookup.ensures.answer c.requires.live c.requires.started there.1 there.2)
 

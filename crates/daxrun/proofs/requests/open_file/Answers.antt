@@ -9,8 +9,8 @@ use Rattle.daxrun.proofs.requests.open_file.Goals as goal
 pub open_file-requires : goal.open_file-requires
 open_file-requires g c = record { boards = CanAsk-servable _ _ _ c.requires.live.whole c.requires.live.servable }
 
-pub finish-requires : goal.finish-requires
-finish-requires g c = done_or_memory _ _ _ _ _ (opens _ _ _ _ _ _ _ _ _ c.open_file.ensures.answer c.requires.live c.requires.started c.requires.known c.requires.made c.requires.may)
+pub succeed-requires : goal.succeed-requires
+succeed-requires g c = done_or_memory _ _ _ _ _ (opens _ _ _ _ _ _ _ _ _ c.open_file.ensures.answer c.requires.live c.requires.started c.requires.known c.requires.made c.requires.may)
 
 pub returns-in_err-fh-clause-live : goal.returns-in_err-fh-clause-live
 returns-in_err-fh-clause-live g c = live_again _ _ _ _ _ _ _ _ _ c.open_file.ensures.answer c.open_file.ensures.wire c.open_file.ensures.boards c.requires.live

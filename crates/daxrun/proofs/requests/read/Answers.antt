@@ -8,8 +8,8 @@ use Rattle.daxrun.proofs.requests.read.Goals as goal
 pub read-requires-clause-boards : goal.read-requires-clause-boards
 read-requires-clause-boards g c = CanAsk-servable _ _ _ c.requires.live.whole c.requires.live.servable
 
-pub finish-requires : goal.finish-requires
-finish-requires g c = done_or_memory _ _ _ _ _ (reads _ _ _ _ _ _ _ _ _ _ _ c.read.ensures.answer c.requires.live c.requires.open c.requires.most)
+pub succeed-requires : goal.succeed-requires
+succeed-requires g c = done_or_memory _ _ _ _ _ (reads _ _ _ _ _ _ _ _ _ _ _ c.read.ensures.answer c.requires.live c.requires.open c.requires.most)
 
 pub returns-in_err-bytes-clause-live : goal.returns-in_err-bytes-clause-live
 returns-in_err-bytes-clause-live g c = live_again _ _ _ _ _ _ _ _ _ c.read.ensures.answer c.read.ensures.wire c.read.ensures.boards c.requires.live

@@ -5,8 +5,8 @@ use Rattle.daxrun.proofs.requests.write.Goals as goal
 pub write-requires-clause-boards : goal.write-requires-clause-boards
 write-requires-clause-boards g c = CanAsk-servable _ _ _ c.requires.live.whole c.requires.live.servable
 
-pub finish-requires : goal.finish-requires
-finish-requires g c = done_or_memory _ _ _ _ _ (writes _ _ _ _ _ _ _ _ _ _ _ c.write.ensures.answer c.requires.live c.requires.open c.requires.most c.requires.end)
+pub succeed-requires : goal.succeed-requires
+succeed-requires g c = done_or_memory _ _ _ _ _ (writes _ _ _ _ _ _ _ _ _ _ _ c.write.ensures.answer c.requires.live c.requires.open c.requires.most c.requires.end)
 
 pub returns-in_err-size-clause-live : goal.returns-in_err-size-clause-live
 returns-in_err-size-clause-live g c = live_again _ _ _ _ _ _ _ _ _ c.write.ensures.answer c.write.ensures.wire c.write.ensures.boards c.requires.live
