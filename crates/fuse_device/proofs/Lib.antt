@@ -9,3 +9,4 @@ pub mod Decoded
 pub mod Servable
 pub mod Mapped
 pub mod DataLaws
+pub mod DataFiles
