@@ -1,5 +1,5 @@
 -- What the device that stays as it is makes of its boards: one operation on the file that a chain names, if any.
-use Rattle.std.proofs.Common.{◌≡◌, ◌⊎◌, ◌∙◌, sym, ap, refl, ℕ, ◌-◌, ◌==◌, Bool, true, false, true≢false, not, ◌||◌, nat_lt, List, [], length, Option, Some, None, Result, Ok, Err, inl, inr, if◌then◌else◌}
+use Rattle.std.proofs.Common.{◌≡◌, ◌⊎◌, ◌∙◌, sym, ap, refl, ℕ, ◌-◌, ◌==◌, Bool, true, false, true≢false, not, nat_lt, List, [], length, Option, Some, None, Result, Ok, Err, inl, inr, if◌then◌else◌}
 use Rattle.std.proofs.lemmas.Bool.{cases_Bool}
 use Rattle.fuse_codec.specs.Reading.{message_of}
 use Rattle.fuse_codec.specs.declared.errors.BadRequest.{BadRequest}
@@ -8,14 +8,14 @@ use Rattle.fuse_codec.specs.declared.messages.Request.{Request}
 use Rattle.fuse_codec.specs.declared.messages.Request.TheVariants as asks
 use Rattle.fuse_codec.specs.declared.replies.Reply.{Reply}
 use Rattle.fuse_wire.specs.declared.errno.Errno.{Errno}
-use Rattle.fuse_wire.specs.declared.errno.Errno.TheVariants.{ENOENT, EIO, EBADF, EBUSY, EISDIR, EINVAL, EFBIG, ENOSYS}
+use Rattle.fuse_wire.specs.declared.errno.Errno.TheVariants.{EBUSY, EINVAL, ENOSYS}
 use Rattle.page_map.specs.Board.{MapView}
 use Rattle.plain_file.specs.Board.{BoardView, file_at, file_answer, may_apply, applied}
 use Rattle.plain_file.specs.declared.operations.Answer.{Answer}
 use Rattle.plain_file.specs.declared.operations.Op.{Op}
 use Rattle.fuse_device.specs.State.{State, World}
 use Rattle.fuse_device.specs.Checks.{Outcome, is_known, refuse}
-use Rattle.fuse_device.specs.Requests.{done, applies, attr_of, resizes, getattr, setattr, sync, read, write, setup, remove, answered, is_init, is_forget, served}
+use Rattle.fuse_device.specs.Requests.{done, applies, attr_of, resizes, getattr, setattr, sync, read, write, setup, remove, answered, served}
 use Rattle.fuse_device.specs.Steps.{Step, is_forget_number, header_at, judged_message, replied, device_step}
 use Rattle.fuse_device.specs.DataSteps.{is_data, is_on_file, file_of, file_in, named_file, data_judged_message, data_judged, data_step}
 use Rattle.fuse_device.proofs.DataLaws.{data_step-device_step}
