@@ -1,5 +1,5 @@
 -- A step of the device keeps what boards keep.
-use Rattle.std.proofs.Common.{◌≡◌, ◌∙◌, sym, refl, arith, ◌<◌, ℕ, ◌-◌, ◌*◌, ◌==◌, Bool, true, false, true≢false, List, [], ◌∷◌, length, length-set, Option, Some, None, Result, Ok, Err, inl, inr, not, nat_lt, if◌then◌else◌}
+use Rattle.std.proofs.Common.{◌≡◌, ◌∙◌, sym, refl, arith, ◌<◌, ℕ, zero, suc, ◌+◌, ◌-◌, ◌*◌, ◌==◌, Bool, true, false, true≢false, List, [], ◌∷◌, ◌++◌, length, drop, slice_get, set, length-set, Option, Some, None, is_some, Result, Ok, Err, inl, inr, not, nat_lt, if◌then◌else◌}
 use Rattle.std.proofs.lemmas.Bool.{cases_eq}
 use Rattle.std.proofs.lemmas.List.{append-nil}
 use Rattle.std.specs.List.{list_all}
@@ -14,41 +14,79 @@ use Rattle.fuse_wire.specs.declared.errno.Errno.{Errno}
 use Rattle.fuse_wire.specs.declared.errno.Errno.TheVariants.{EBUSY, EINVAL}
 use Rattle.fuse_wire.specs.declared.mappings.RemoveOne.{RemoveOne}
 use Rattle.fuse_wire.specs.declared.mappings.SetupIn.{SetupIn}
-use Rattle.plain_file.specs.Board.{FileView, BoardView, file_at, with_file, with_own, entry_of, file_answer, may_apply, applied}
+use Rattle.plain_file.specs.Board.{Note, FileView, BoardView, file_at, with_file, size_of, with_note, noted, with_own, file_answer, may_apply, applied}
+use Rattle.plain_file.specs.Board as board
 use Rattle.plain_file.specs.declared.operations.Answer.{Answer}
 use Rattle.plain_file.specs.declared.operations.Entry.{Entry}
 use Rattle.plain_file.specs.declared.operations.Op.{Op}
 use Rattle.plain_file.proofs.OneFile.{file_at-with_file, file_at-with_other}
 use Rattle.page_map.specs.Board.{MapView, wiped, painted, is_whole}
 use Rattle.page_map.specs.declared.pages.Span.{Span}
-use Rattle.fuse_device.specs.State.{State, World, grants, cleared_window, all_cleared, ended}
+use Rattle.fuse_device.specs.State.{State, World, grants, looked_up, with_open, cleared_window, all_cleared, ended}
+use Rattle.fuse_device.specs.Entries.{entry_of, open_out_of}
 use Rattle.fuse_device.specs.Checks.{Outcome, refuse}
-use Rattle.fuse_device.specs.Requests.{done, applies, attr_of, opens, closes, found, unlinked, opens_entry, makes_entry, created, resizes, span_of, is_bad_setup, init, destroy, getattr, setattr, open_file, open_dir, release, release_dir, sync, fallocate, read, write, lookup, unlink, create, forget, batch_forget, read_dir, setup, remove, answered, served}
+use Rattle.fuse_device.specs.Requests.{done, applies, attr_of, opens, closes, with_state, seen_size, found, unlinked, opens_entry, makes_entry, created, resizes, span_of, is_bad_setup, init, destroy, getattr, setattr, open_file, open_dir, release, release_dir, sync, fallocate, read, write, lookup, unlink, create, forget, batch_forget, read_dir, setup, remove, answered, served}
 use Rattle.fuse_device.specs.Steps.{Step, judged_message, judged, forgot, replied, header_at, is_forget_number, device_step}
 use Rattle.fuse_device.specs.Promises.{CanStep, world}
 use Rattle.fuse_device.proofs.Clears.{first_of_both, rest_of_both, wiped_len, painted_len, whole_window}
 use Rattle.std.proofs.lemmas.Grind.{common_steps}
 use Rattle.guest_wire.specs.Wires.{boards}
-use Rattle.guest_wire.specs.Keeps.{KeepsFile, KeepsFiles, KeepsPages, KeepsBoards}
+use Rattle.guest_wire.specs.Keeps.{KeepsNote, KeepsFile, KeepsFiles, KeepsPages, KeepsBoards}
 
 -- ---- what is left alone is kept
 
+-- what stands in a list stands there in a longer one
+pub place_in_longer : {X : Type 0} (xs ys : List X) (k : ℕ) (x : X) → slice_get xs k ≡ Some x → slice_get (xs ++ ys) k ≡ Some x
+place_in_longer [] ys k x e = absurd cc
+place_in_longer (y ∷ xs) ys zero x e = e
+place_in_longer (y ∷ xs) ys (suc k) x e = place_in_longer xs ys k x e
+
+same_note : (made : List ℕ) (n : Note) (kept : Option Note) → kept ≡ Some n → KeepsNote made n kept
+same_note made n kept e = (n, e, refl, refl, inl refl)
+
 same_file : (f : FileView) → KeepsFile f f
-same_file f = record { first = refl; barred = refl; history = ([], sym (append-nil f.history)); own = ([], sym (append-nil f.own)) }
+same_file f = record {
+  first = refl;
+  history = ([], sym (append-nil f.history));
+  own = ([], sym (append-nil f.own));
+  floor = refl;
+  refusals = refl;
+  refused = refl;
+  notes = λ k n at. same_note (drop (length f.own) f.own) n (slice_get f.notes k) at;
+}
 
 same_files : (v : BoardView) → KeepsFiles v v
-same_files v = record { guest = refl; mark = refl; plain = refl; over = refl; count = refl; each = λ file within. same_file (file_at v file) }
+same_files v = record { guest = refl; mark = refl; plain = refl; over = refl; may_lease = refl; others = refl; hands = refl; count = refl; each = λ file within. same_file (file_at v file) }
 
 same_pages : (v : MapView) → KeepsPages v v
-same_pages v = record { plain = refl; over = refl; hands = refl; count = refl }
+same_pages v = record { plain = refl; over = refl; hands = refl; ranges = refl; count = refl }
 
 pub KeepsBoards-same : (files : BoardView) (map : MapView) → KeepsBoards (boards files map) (boards files map)
 KeepsBoards-same files map = record { files = same_files files; map = same_pages map }
 
--- ---- one operation on a file
+-- ---- one operation on a file, and one size that is noted
 
 with_own_keeps : (plain : Bool) (e : Entry) (f : FileView) → KeepsFile f (with_own plain e f)
-with_own_keeps plain e f = record { first = refl; barred = refl; history = (e ∷ [], refl); own = (length f.history ∷ [], refl) }
+with_own_keeps plain e f = record {
+  first = refl;
+  history = (e ∷ [], refl);
+  own = (length f.history ∷ [], refl);
+  floor = refl;
+  refusals = refl;
+  refused = refl;
+  notes = λ k n at. same_note (drop (length f.own) (f.own ++ length f.history ∷ [])) n (slice_get f.notes k) at;
+}
+
+with_note_keeps : (z : ℕ) (f : FileView) → KeepsFile f (with_note z f)
+with_note_keeps z f = record {
+  first = refl;
+  history = ([], sym (append-nil f.history));
+  own = ([], sym (append-nil f.own));
+  floor = refl;
+  refusals = refl;
+  refused = refl;
+  notes = λ k n at. same_note (drop (length f.own) f.own) n (slice_get (with_note z f).notes k) (place_in_longer f.notes (record { size = z; lower = length f.history; upper = None } ∷ []) k n at);
+}
 
 -- one file is changed, and each is kept
 with_file_keeps : (v : BoardView) (i : ℕ) (f : FileView) → KeepsFile (file_at v i) f → (file : ℕ) → file < length v.files → KeepsFile (file_at v file) (file_at (with_file v i f) file)
@@ -57,17 +95,28 @@ with_file_keeps v i f one file within = elim (cases_eq file i) [
   | inr other ↦ rw (file_at-with_other v i file f other) (same_file (file_at v file))
 ]
 
+one_file_keeps : (v : BoardView) (file : ℕ) (f : FileView) → KeepsFile (file_at v file) f → KeepsFiles v (with_file v file f)
+one_file_keeps v file f one = record {
+  guest = refl;
+  mark = refl;
+  plain = refl;
+  over = refl;
+  may_lease = refl;
+  others = refl;
+  hands = refl;
+  count = length-set v.files file f;
+  each = with_file_keeps v file f one;
+}
+
 applied_keeps : (v : BoardView) (file : ℕ) (op : Op) → KeepsFiles v (applied v file op)
-applied_keeps v file op =
-    let f : FileView = with_own v.plain (entry_of v op) (file_at v file) in
-    record {
-      guest = refl;
-      mark = refl;
-      plain = refl;
-      over = refl;
-      count = length-set v.files file f;
-      each = with_file_keeps v file f (with_own_keeps v.plain (entry_of v op) (file_at v file));
-    }
+applied_keeps v file op = one_file_keeps v file (with_own v.plain (board.entry_of v op) (file_at v file)) (with_own_keeps v.plain (board.entry_of v op) (file_at v file))
+
+noted_by : (v : BoardView) (file z : ℕ) (b : Bool) → KeepsFiles v (record v { files = if b then set v.files file (with_note z (file_at v file)) else v.files })
+noted_by v file z true = one_file_keeps v file (with_note z (file_at v file)) (with_note_keeps z (file_at v file))
+noted_by v file z false = same_files v
+
+noted_keeps : (v : BoardView) (file z : ℕ) → KeepsFiles v (noted v file z)
+noted_keeps v file z = noted_by v file z (is_some v.over)
 
 -- ---- outcomes
 
@@ -82,6 +131,10 @@ record Kept (w : World) (o : Outcome) : Type 0 where
 -- another state, over the same boards
 kept_state : (w : World) (r : Result Reply Errno) (s : State) → Kept w (r, record w { state = s })
 kept_state w r s = record { after = KeepsBoards-same w.files w.map }
+
+-- another state, after a file's size was seen
+kept_seen : (w : World) (r : Result Reply Errno) (i : ℕ) (s : State) → Kept w (r, with_state (seen_size w i) s)
+kept_seen w r i s = record { after = record { files = noted_keeps w.files i (size_of (file_at w.files i)); map = same_pages w.map } }
 
 kept_map : (w : World) (r : Result Reply Errno) (s : State) (m : MapView) → KeepsPages w.map m → Kept w (r, record w { state = s; map = m })
 kept_map w r s m h = record { after = record { files = same_files w.files; map = h } }
@@ -117,17 +170,17 @@ closes_kept w fh = record { after = KeepsBoards-same w.files w.map }
 
 found_kept : (i : Option ℕ) (w : World) → Kept w (found i w)
 found_kept None w = record { after = KeepsBoards-same w.files w.map }
-found_kept (Some i) w = record { after = KeepsBoards-same w.files w.map }
+found_kept (Some i) w = kept_seen w (Ok (gives.Entry (entry_of w.state w.files i))) i (looked_up w.state i)
 
 unlinked_kept : (i : Option ℕ) (w : World) → Kept w (unlinked i w)
 unlinked_kept None w = record { after = KeepsBoards-same w.files w.map }
 unlinked_kept (Some i) w = record { after = KeepsBoards-same w.files w.map }
 
 entry_kept : (w : World) (i : ℕ) → Kept w (opens_entry w i)
-entry_kept w i = record { after = KeepsBoards-same w.files w.map }
+entry_kept w i = kept_seen w (Ok (gives.Created (entry_of w.state w.files i) (open_out_of w.state))) i (with_open (looked_up w.state i) (i + 2))
 
 makes_kept : (w : World) (name : List ℕ) → Kept w (makes_entry w name)
-makes_kept w name = record { after = KeepsBoards-same w.files w.map }
+makes_kept w name = record { after = record { files = noted_keeps w.files (length w.state.made) (size_of (file_at w.files (length w.state.made))); map = same_pages w.map } }
 
 created_kept : (i : Option ℕ) (exclusive : Bool) (w : World) (name : List ℕ) → Kept w (created i exclusive w name)
 created_kept (Some i) exclusive w name = search (refuse_kept, entry_kept)
@@ -139,13 +192,13 @@ resizes_kept w node size = search (refuse_kept, applies_kept)
 -- ---- the window
 
 painted_keeps : (w : World) (s : Span) → HasPages w → is_whole w.state.pages s.moffset s.len ≡ true → KeepsPages w.map (painted w.map s)
-painted_keeps w s h whole = record { plain = refl; over = refl; hands = refl; count = painted_len w.map (painted w.map s) s w.state.pages h.pages whole refl }
+painted_keeps w s h whole = record { plain = refl; over = refl; hands = refl; ranges = refl; count = painted_len w.map (painted w.map s) s w.state.pages h.pages whole refl }
 
 wiped_keeps : (v : MapView) (pages moffset len : ℕ) → length v.table ≡ pages → is_whole pages moffset len ≡ true → KeepsPages v (wiped v moffset len)
-wiped_keeps v pages moffset len h whole = record { plain = refl; over = refl; hands = refl; count = wiped_len v (wiped v moffset len) moffset len pages h whole refl }
+wiped_keeps v pages moffset len h whole = record { plain = refl; over = refl; hands = refl; ranges = refl; count = wiped_len v (wiped v moffset len) moffset len pages h whole refl }
 
 keeps_pages_both : (u v w : MapView) → KeepsPages u v → KeepsPages v w → KeepsPages u w
-keeps_pages_both u v w h k = record { plain = k.plain ∙ h.plain; over = k.over ∙ h.over; hands = k.hands ∙ h.hands; count = k.count ∙ h.count }
+keeps_pages_both u v w h k = record { plain = k.plain ∙ h.plain; over = k.over ∙ h.over; hands = k.hands ∙ h.hands; ranges = k.ranges ∙ h.ranges; count = k.count ∙ h.count }
 
 all_cleared_keeps : (ones : List RemoveOne) (v : MapView) (pages : ℕ) → length v.table ≡ pages → list_all (λ one. is_whole pages one.moffset one.len) ones ≡ true → KeepsPages v (all_cleared v ones)
 all_cleared_keeps [] v pages h whole = same_pages v
@@ -159,11 +212,11 @@ if_pages : (v : MapView) (b : Bool) (x y : MapView) → KeepsPages v x → (b �
 if_pages v true x y h k = h
 if_pages v false x y h k = k refl
 
-is_some : (n : ℕ) → (n == 0) ≡ false → 0 < n
-is_some n h = grind (arith, common_steps, h)
+above_zero : (n : ℕ) → (n == 0) ≡ false → 0 < n
+above_zero n h = grind (arith, common_steps, h)
 
 cleared_keeps : (v : MapView) (pages : ℕ) → length v.table ≡ pages → KeepsPages v (cleared_window pages v)
-cleared_keeps v pages h = if_pages v (pages == 0) v (wiped v 0 (4096 * pages)) (same_pages v) (λ e. wiped_keeps v pages 0 (4096 * pages) h (whole_window pages (is_some pages e)))
+cleared_keeps v pages h = if_pages v (pages == 0) v (wiped v 0 (4096 * pages)) (same_pages v) (λ e. wiped_keeps v pages 0 (4096 * pages) h (whole_window pages (above_zero pages e)))
 
 not_false : (b : Bool) → not b ≡ false → b ≡ true
 not_false false h = absurd (true≢false h)
