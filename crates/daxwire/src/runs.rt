@@ -38,7 +38,8 @@ use std::alloc::Global;
 /// - `Usage`: the words are no command, and the usage line was taken; nothing was read.
 /// - `ReadFault`: the source failed; the answers to the frames that were read whole before were taken,
 ///   and of an image nothing.
-/// - `WriteFault`: the sink failed; what was taken is a front of the text due, and not all of it.
+/// - `WriteFault`: the sink failed; what was taken is a front of the text due, and not all of it. Where the
+///   words are no command, that is the usage line.
 /// - `Memory`: an allocation was refused; what was taken is a front of the text due.
 /// - `TooLong`: the source has more than 268,435,456 bytes, of which, in a stream, these have nothing
 ///   malformed. `show` and `ring` write the last line `too long` for it, `serve` nothing.
@@ -56,6 +57,7 @@ pub fn run_wire<S: Source, K: Sink>(
         × IsStopped (command_of words.now) (S.left source.old) (S.left source.new) (K.taken sink.old) (K.taken sink.new) }
     ensures write_fault { result ≡ Status.WriteFault → Rose (K.faults sink.old) (K.faults sink.new)
         × IfSome (S.left source.old) (λ input. AppendsPart (K.taken sink.old) (K.taken sink.new) (due_text words.now input)) }
+    ensures usage_fault { result ≡ Status.WriteFault → command_of words.now ≡ None → AppendsPart (K.taken sink.old) (K.taken sink.new) usage_line }
     ensures memory { result ≡ Status.Memory → IfSome (S.left source.old) (λ input. AppendsFront (K.taken sink.old) (K.taken sink.new) (due_text words.now input)) }
     ensures legal { result ≢ Status.NotLegal }
     ensures no_command { command_of words.now ≡ None → IsUsageOrWriteFault result × (source.new ≡ source.old) }
