@@ -111,6 +111,8 @@ opened-marked at w v m n h =
     record {
       live = record {
         honest = h.live.honest;
+        whole = h.live.whole;
+        alone = h.live.alone;
         servable = record { plain = k.plain; enough = k.enough; ready = k.ready; few = k.few; free = k.free; pages = k.pages };
       };
       first = h.first;

@@ -9,7 +9,7 @@ use Rattle.daxrun.proofs.OneGuest.{legal, only_file}
 use Rattle.daxrun.proofs.plays.play.Goals as goal
 
 pub returns-clause-legal : goal.returns-clause-legal
-returns-clause-legal c =
+returns-clause-legal g c =
     let s = c.args.script.now in
     let f = c.index-as_slice-0.result in
     let some : 0 < length s.files = omega (arith, c.requires.one_file) in

@@ -7,7 +7,6 @@ use Rattle.daxrun.specs.declared.transcripts.GuestPart.{GuestPart}
 use Rattle.daxrun.specs.declared.transcripts.Transcript.{Transcript}
 use Rattle.daxrun.specs.Play.{entry_line, entries_of, guests_of, transcript_for}
 use Rattle.daxrun.specs.TranscriptReading.{IsPrintable, IsPrintableGuest}
-use Rattle.fuse_device.specs.State.{new_state}
 use Rattle.daxrun.proofs.Playing.{bytes_now-new, servable-new, small-new}
 use Rattle.daxrun.proofs.Printable.{transcript_printable}
 use Rattle.daxrun.proofs.plays.play_file.Goals as goal
@@ -26,10 +25,10 @@ value c =
     λ i. record { version = 1; ranges = 0; files = files i; guests = guests i }
 
 pub returns-clause-value : goal.returns-clause-value
-returns-clause-value c = value c
+returns-clause-value g c = value c
 
 pub returns-clause-printable : goal.returns-clause-printable
-returns-clause-printable c =
+returns-clause-printable g c =
     let f = c.args.file.now in
     let gs = c.args.guests.now in
     let start : bytes_now (file_at c.in_ok-files.files 0) ≡ first_bytes f.first = ap (λ (v : BoardView). bytes_now (file_at v 0)) c.in_ok-files.ensures.value ∙ bytes_now-new 0 f.first in
@@ -39,14 +38,15 @@ returns-clause-printable c =
     subst Q (sym (value c)) (transcript_printable f gs c.requires.name c.requires.size c.board.ensures.byte c.requires.few (subst P guests c.in_ok-parts.ensures.printable))
 
 pub play_guests-requires-clause-small : goal.play_guests-requires-clause-small
-play_guests-requires-clause-small c = small-new c.args.file.now.first _ c.in_ok-files.ensures.value c.requires.size
+play_guests-requires-clause-small g c = small-new c.args.file.now.first _ c.in_ok-files.ensures.value c.requires.size
 
 -- the wire hands requests to a new daemon, over boards on which nothing was done
-pub play_guests-requires-clause-new : goal.play_guests-requires-clause-new
-play_guests-requires-clause-new c = ap (λ d. d.wire.daemon.now) c.new-client.ensures ∙ ap (λ w. w.state) c.in_ok-new.ensures.wire ∙ c.in_ok-daemon.ensures
-
 pub play_guests-requires-clause-live : goal.play_guests-requires-clause-live
-play_guests-requires-clause-live c =
+play_guests-requires-clause-live g c =
     let f = c.args.file.now in
-    let state : c.new-client.result.wire.daemon.now ≡ new_state 0 (f.name ∷ []) = ap (λ d. d.wire.daemon.now) c.new-client.ensures ∙ ap (λ w. w.state) c.in_ok-new.ensures.wire ∙ c.in_ok-daemon.ensures in
-    record { honest = refl; servable = servable-new f.name f.first _ _ _ state c.in_ok-files.ensures.value c.in_ok-map.ensures.new }
+    record {
+      honest = c.requires.honest;
+      whole = c.requires.whole;
+      alone = ap (λ (v : BoardView). v.over) c.in_ok-files.ensures.value;
+      servable = servable-new f.name f.first _ _ _ c.requires.new c.in_ok-files.ensures.value c.in_ok-map.ensures.new;
+    }
