@@ -1,4 +1,4 @@
--- What a carried request leaves: the daemon that stays as it is, or the whole daemon's step.
+-- What a carried request leaves of the daemon and of the boards, by whether the daemon stays as it is.
 use Rattle.std.proofs.Common.{◌≡◌, ◌≢◌, ◌∙◌, ap, sym, subst, refl, ℕ, ◌<◌, ◌≤◌, Bool, true, false, true≢false, arith, List, [], ◌∷◌, ◌++◌, append_assoc, length, map, drop, set, slice_get, length-set, Option, Some, None, option_map, Result, Ok, Err, inl, inr}
 use Rattle.std.specs.Prelude.{All}
 use Rattle.std.proofs.Math.Seq.{drop-length, drop-append_seam}
@@ -161,15 +161,8 @@ turn_keeps v file f free one = record {
   each = with_file_keeps v file f one;
 }
 
-left-entered : (v : BoardView) (file : ℕ) (more : List Entry) → file < length v.files → left (entered v file more) file ≡ after_turn v file (seen_by v.plain (file_at v file) more)
-left-entered v file more within =
-    let seen : FileView = seen_file (file_at v file) more in
-    let files : List FileView = set v.files file seen in
-    ap (λ (f : FileView). record (after_turn v file f) { files = set files file (record f { ready = v.plain }) }) (file_at-with_file v file seen within)
-    ∙ ap (λ (fs : List FileView). record (after_turn v file seen) { files = fs }) (set-set v.files file seen (seen_by v.plain (file_at v file) more))
-
-left-applied : (v : BoardView) (file : ℕ) (f : FileView) → file < length v.files → left (with_file v file f) file ≡ after_turn v file (record f { ready = v.plain })
-left-applied v file f within =
+left-with_file : (v : BoardView) (file : ℕ) (f : FileView) → file < length v.files → left (with_file v file f) file ≡ after_turn v file (record f { ready = v.plain })
+left-with_file v file f within =
     let files : List FileView = set v.files file f in
     ap (λ (g : FileView). record (after_turn v file g) { files = set files file (record g { ready = v.plain }) }) (file_at-with_file v file f within)
     ∙ ap (λ (fs : List FileView). record (after_turn v file f) { files = fs }) (set-set v.files file f (record f { ready = v.plain }))
@@ -180,12 +173,12 @@ left-used v file more op within =
     let seen : FileView = seen_file (file_at v file) more in
     let inside : file < length (entered v file more).files = rw (length-set v.files file seen) within in
     let used : FileView = used_by v.plain (file_at v file) more (entry_of v op) in
-    left-applied (entered v file more) file (with_own v.plain (entry_of v op) (file_at (entered v file more) file)) inside
+    left-with_file (entered v file more) file (with_own v.plain (entry_of v op) (file_at (entered v file more) file)) inside
     ∙ ap (λ (f : FileView). after_turn (entered v file more) file (record (with_own v.plain (entry_of v op) f) { ready = v.plain })) (file_at-with_file v file seen within)
     ∙ ap (λ (fs : List FileView). record (after_turn v file used) { files = fs }) (set-set v.files file seen used)
 
 seen_turn_keeps : (v : BoardView) (file : ℕ) (more : List Entry) → file < length v.files → v.hands.turn ≡ None → KeepsFiles v (left (entered v file more) file)
-seen_turn_keeps v file more within free = rw (left-entered v file more within) (turn_keeps v file (seen_by v.plain (file_at v file) more) free (seen_keeps v.plain (file_at v file) more))
+seen_turn_keeps v file more within free = rw (left-with_file v file (seen_file (file_at v file) more) within) (turn_keeps v file (seen_by v.plain (file_at v file) more) free (seen_keeps v.plain (file_at v file) more))
 
 used_turn_keeps : (v : BoardView) (file : ℕ) (more : List Entry) (op : Op) → file < length v.files → v.hands.turn ≡ None → KeepsFiles v (left (applied (entered v file more) file op) file)
 used_turn_keeps v file more op within free =
@@ -218,17 +211,17 @@ data_files_same w readable room none = elim (data_step_files w readable room) [
   | inr on ↦ absurd (not_both (named_file w.state readable) on.file on.is none)
 ]
 
--- the daemon that stays as it is, with the turn of a file or none
-data_keeps : (s : State) (b : Boards) (turn : Option ℕ) (more : List Entry) (readable : List ℕ) (room : ℕ) → named_file s readable ≡ turn → CanShare s b
+-- a step of the daemon that stays as it is, in the turn of a file or none
+turn_step_keeps : (s : State) (b : Boards) (turn : Option ℕ) (more : List Entry) (readable : List ℕ) (room : ℕ) → named_file s readable ≡ turn → CanShare s b
     → Keeps b (without_turn turn (data_step (with_turn turn (world s b.files b.map) more) readable room).0)
 unfolding with_turn without_turn
-data_keeps s b None more readable room named can = record {
+turn_step_keeps s b None more readable room named can = record {
   kept = record {
     files = rw (data_files_same (world s b.files b.map) readable room named) (same_files b.files);
     map = KeepsPages-data_step (world s b.files b.map) readable room can.pages;
   };
 }
-data_keeps s b (Some file) more readable room named can =
+turn_step_keeps s b (Some file) more readable room named can =
     let within : file < length b.files.files = omega (arith, named_within s readable file named, can.there) in
     record {
       kept = record {
@@ -238,11 +231,11 @@ data_keeps s b (Some file) more readable room named can =
     }
 
 -- the same where nothing was carried out
-seen_keeps_boards : (s : State) (b : Boards) (turn : Option ℕ) (more : List Entry) (readable : List ℕ) → named_file s readable ≡ turn → CanShare s b
+turn_seen_keeps : (s : State) (b : Boards) (turn : Option ℕ) (more : List Entry) (readable : List ℕ) → named_file s readable ≡ turn → CanShare s b
     → Keeps b (without_turn turn (with_turn turn (world s b.files b.map) more))
 unfolding with_turn without_turn
-seen_keeps_boards s b None more readable named can = record { kept = KeepsBoards-same b.files b.map }
-seen_keeps_boards s b (Some file) more readable named can =
+turn_seen_keeps s b None more readable named can = record { kept = KeepsBoards-same b.files b.map }
+turn_seen_keeps s b (Some file) more readable named can =
     let within : file < length b.files.files = omega (arith, named_within s readable file named, can.there) in
     record { kept = record { files = seen_turn_keeps b.files file more within can.free; map = same_pages b.map } }
 
@@ -254,40 +247,43 @@ data_step_of : (stays : Bool) (w : World) (sent : Sent) → stays ≡ true → d
 data_step_of true w sent h = refl
 data_step_of false w sent h = absurd (true≢false (sym h))
 
--- the daemon stays as it is, or not
-carried_keeps : (w : WireView) (b : Boards) (sent : Sent) (bytes : List ℕ) (new : World) → w.stays ≡ true → CanShare w.state b → IsCarried w (world_at w b) sent bytes new → KeepsBoards b (boards new.files new.map)
-carried_keeps w b sent bytes new stays can c =
+-- so what it carries out keeps them
+shared_carried_keeps : (w : WireView) (b : Boards) (sent : Sent) (bytes : List ℕ) (new : World) → w.stays ≡ true → CanShare w.state b → IsCarried w (world_at w b) sent bytes new → KeepsBoards b (boards new.files new.map)
+shared_carried_keeps w b sent bytes new stays can c =
     let turn : Option ℕ = turn_for w sent.bytes in
     let began : World = with_turn turn (world_at w b) c.more in
     let left_by : without_turn turn (data_step began sent.bytes sent.room).0 ≡ new = ap (λ (t : Step). without_turn turn t.0) (data_step_of w.stays began sent stays ∙ c.step) ∙ sym c.left in
-    (subst (Keeps b) left_by (data_keeps w.state b turn c.more sent.bytes sent.room (own_turn w sent.bytes stays) can)).kept
+    (subst (Keeps b) left_by (turn_step_keeps w.state b turn c.more sent.bytes sent.room (own_turn w sent.bytes stays) can)).kept
 
-seen_boards_keep : (w : WireView) (b : Boards) (sent : Sent) (new : World) → w.stays ≡ true → CanShare w.state b → IsSeen w (world_at w b) sent new → KeepsBoards b (boards new.files new.map)
-seen_boards_keep w b sent new stays can seen =
-    (subst (Keeps b) (sym seen.left) (seen_keeps_boards w.state b (turn_for w sent.bytes) seen.more sent.bytes (own_turn w sent.bytes stays) can)).kept
+shared_seen_keeps : (w : WireView) (b : Boards) (sent : Sent) (new : World) → w.stays ≡ true → CanShare w.state b → IsSeen w (world_at w b) sent new → KeepsBoards b (boards new.files new.map)
+shared_seen_keeps w b sent new stays can seen =
+    (subst (Keeps b) (sym seen.left) (turn_seen_keeps w.state b (turn_for w sent.bytes) seen.more sent.bytes (own_turn w sent.bytes stays) can)).kept
 
-step_keeps : (w : WireView) (b : Boards) (sent : Sent) (bytes : List ℕ) (new : World) → CanStep w.state b.files b.map sent.bytes → IsStep (world_at w b) sent bytes new → KeepsBoards b (boards new.files new.map)
-step_keeps w b sent bytes new can step =
+-- and so does the whole daemon's step
+whole_step_keeps : (w : WireView) (b : Boards) (sent : Sent) (bytes : List ℕ) (new : World) → CanStep w.state b.files b.map sent.bytes → IsStep (world_at w b) sent bytes new → KeepsBoards b (boards new.files new.map)
+whole_step_keeps w b sent bytes new can step =
     (subst (Keeps b) (ap (λ (t : Step). t.0) step) (record { kept = KeepsBoards-device_step w.state b.files b.map sent.bytes sent.room can })).kept
 
 serves_by : (stays by : Bool) (s : State) (b : Boards) (readable : List ℕ) → stays ≡ by → Serves stays s b readable → Serves by s b readable
 serves_by stays by s b readable e h = subst (λ (x : Bool). Serves x s b readable) e h
 
+-- whatever is carried out
 pub KeepsBoards-carried : (w : WireView) (b : Boards) (sent : Sent) (bytes : List ℕ) (new : World) → Serves w.stays w.state b sent.bytes → IsCarried w (world_at w b) sent bytes new → KeepsBoards b (boards new.files new.map)
 KeepsBoards-carried w b sent bytes new serves c = elim (cases_Bool w.stays) [
-  | inl stays ↦ carried_keeps w b sent bytes new stays (serves_by w.stays true w.state b sent.bytes stays serves) c
-  | inr whole ↦ step_keeps w b sent bytes new (serves_by w.stays false w.state b sent.bytes whole serves) (carried_whole w (world_at w b) sent bytes new whole c)
+  | inl stays ↦ shared_carried_keeps w b sent bytes new stays (serves_by w.stays true w.state b sent.bytes stays serves) c
+  | inr whole ↦ whole_step_keeps w b sent bytes new (serves_by w.stays false w.state b sent.bytes whole serves) (carried_whole w (world_at w b) sent bytes new whole c)
 ]
 
-seen_keeps_all : (w : WireView) (b : Boards) (sent : Sent) (new : World) → Serves w.stays w.state b sent.bytes → IsSeen w (world_at w b) sent new → KeepsBoards b (boards new.files new.map)
-seen_keeps_all w b sent new serves seen = elim (cases_Bool w.stays) [
-  | inl stays ↦ seen_boards_keep w b sent new stays (serves_by w.stays true w.state b sent.bytes stays serves) seen
+seen_keeps_boards : (w : WireView) (b : Boards) (sent : Sent) (new : World) → Serves w.stays w.state b sent.bytes → IsSeen w (world_at w b) sent new → KeepsBoards b (boards new.files new.map)
+seen_keeps_boards w b sent new serves seen = elim (cases_Bool w.stays) [
+  | inl stays ↦ shared_seen_keeps w b sent new stays (serves_by w.stays true w.state b sent.bytes stays serves) seen
   | inr whole ↦ (subst (Keeps b) (sym (seen_whole (turn_for w sent.bytes) (world_at w b) seen.more new (no_turn w sent.bytes whole) seen.left)) (record { kept = KeepsBoards-same b.files b.map })).kept
 ]
 
+-- whatever an honest wire answers
 pub KeepsBoards-honest : (w : WireView) (b : Boards) (sent : Sent) (result : Result (List ℕ) WireError) (new : World) → Serves w.stays w.state b sent.bytes → Honest w (world_at w b) sent result new → KeepsBoards b (boards new.files new.map)
 KeepsBoards-honest w b sent (Ok bytes) new serves c = KeepsBoards-carried w b sent bytes new serves c
 KeepsBoards-honest w b sent (Err errors.Memory) new serves (inl same) = (subst (Keeps b) (sym same) (record { kept = KeepsBoards-same b.files b.map })).kept
-KeepsBoards-honest w b sent (Err errors.Memory) new serves (inr (inl seen)) = seen_keeps_all w b sent new serves seen
+KeepsBoards-honest w b sent (Err errors.Memory) new serves (inr (inl seen)) = seen_keeps_boards w b sent new serves seen
 KeepsBoards-honest w b sent (Err errors.Memory) new serves (inr (inr (bytes, c))) = KeepsBoards-carried w b sent bytes new serves c
 KeepsBoards-honest w b sent (Err errors.Fault) new serves h = absurd h
