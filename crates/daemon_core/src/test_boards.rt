@@ -60,7 +60,6 @@ impl FileBoard for BarelessFiles {
         None
     }
 
-    #[tactic(auto, using(crate::proofs::Handless::bareless_sound))]
     fn sound(&self, _file: u32) {}
 }
 
