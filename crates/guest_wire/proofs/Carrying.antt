@@ -1,10 +1,9 @@
 -- What a carried request leaves of the daemon and of the boards, by whether the daemon stays as it is.
 use Rattle.std.proofs.Common.{◌≡◌, ◌≢◌, ◌∙◌, ap, sym, subst, refl, ℕ, ◌<◌, ◌≤◌, Bool, true, false, true≢false, arith, List, [], ◌∷◌, ◌++◌, append_assoc, length, map, drop, set, slice_get, length-set, Option, Some, None, option_map, Result, Ok, Err, inl, inr}
 use Rattle.std.specs.Prelude.{All}
-use Rattle.std.proofs.Math.Seq.{drop-length, drop-append_seam}
 use Rattle.std.proofs.lemmas.Bool.{cases_Bool}
-use Rattle.std.proofs.lemmas.List.{append-nil, set-set}
-use Rattle.std.proofs.lemmas.List.Elements.{All-nil, All-cons}
+use Rattle.std.proofs.lemmas.List.{append-nil, length-append, set-set}
+use Rattle.std.proofs.lemmas.List.Elements.{All-nil}
 use Rattle.std.proofs.lemmas.Option.{slice_get-map}
 use Rattle.plain_file.specs.Board.{Note, FileView, BoardView, file_at, with_file, with_own, entry_of, applied}
 use Rattle.plain_file.specs.Turns.{closed, seen_file, entered, left}
@@ -21,7 +20,7 @@ use Rattle.guest_wire.specs.Wires.{WireView, Boards, Sent, boards, world_at, Can
 use Rattle.guest_wire.specs.Keeps.{KeepsNote, KeepsFile, KeepsFiles, KeepsBoards}
 use Rattle.guest_wire.specs.declared.wires.WireError.{WireError}
 use Rattle.guest_wire.specs.declared.wires.WireError.TheVariants as errors
-use Rattle.guest_wire.proofs.StepKeeps.{same_files, same_pages, with_file_keeps, KeepsBoards-same, KeepsBoards-device_step, KeepsPages-data_step}
+use Rattle.guest_wire.proofs.StepKeeps.{none_before, end_before, same_files, same_pages, with_file_keeps, KeepsBoards-same, KeepsBoards-device_step, KeepsPages-data_step}
 
 -- ---- the daemon that stays as it is
 
@@ -97,21 +96,14 @@ honest_by_step_or_not w old sent new h (inr left) =
 -- ---- a file whose turn was had
 
 -- a note with an upper end, where nothing was made before it
-closed_note : (made : List ℕ) (end : ℕ) (n : Note) (upper : Option ℕ) → n.upper ≡ upper → All (λ place. end ≤ place) made → KeepsNote made n (Some (closed end n))
-closed_note made end n None e later = rw e (record n { upper = Some end }, refl, refl, refl, inr (refl, later))
-closed_note made end n (Some u) e later = rw e (record n { upper = Some u }, refl, refl, refl, inl refl)
+closed_note : (made : List ℕ) (end most : ℕ) (n : Note) (upper : Option ℕ) → n.upper ≡ upper → end ≤ most → All (λ place. end ≤ place) made → KeepsNote made most n (Some (closed end n))
+closed_note made end most n None e within later = rw e (record n { upper = Some end }, refl, refl, refl, inr (refl, (within, later)))
+closed_note made end most n (Some u) e within later = rw e (record n { upper = Some u }, refl, refl, refl, inl refl)
 
-closed_notes : (made : List ℕ) (end : ℕ) (notes : List Note) → All (λ place. end ≤ place) made → (k : ℕ) (n : Note) → slice_get notes k ≡ Some n → KeepsNote made n (slice_get (map (closed end) notes) k)
-closed_notes made end notes later k n at =
+closed_notes : (made : List ℕ) (end most : ℕ) (notes : List Note) → end ≤ most → All (λ place. end ≤ place) made → (k : ℕ) (n : Note) → slice_get notes k ≡ Some n → KeepsNote made most n (slice_get (map (closed end) notes) k)
+closed_notes made end most notes within later k n at =
     let e : slice_get (map (closed end) notes) k ≡ Some (closed end n) = slice_get-map (closed end) notes k ∙ ap (option_map (closed end)) at in
-    rw e (closed_note made end n n.upper refl later)
-
--- nothing, and what is made at the end, lies not before it
-none_before : (own : List ℕ) (end : ℕ) → All (λ place. end ≤ place) (drop (length own) own)
-none_before own end = rw (drop-length own) (All-nil (λ place. end ≤ place))
-
-end_before : (own : List ℕ) (end : ℕ) → All (λ place. end ≤ place) (drop (length own) (own ++ end ∷ []))
-end_before own end = rw (drop-append_seam own (end ∷ [])) (All-cons (λ place. end ≤ place) end [] (omega arith) (All-nil (λ place. end ≤ place)))
+    rw e (closed_note made end most n n.upper refl within later)
 
 -- a file after a turn in which nothing was done, and one in which an operation was applied
 abbrev seen_by : Bool → FileView → List Entry → FileView
@@ -128,7 +120,8 @@ seen_keeps plain f more = record {
   floor = refl;
   refusals = refl;
   refused = refl;
-  notes = closed_notes (drop (length f.own) f.own) (length (f.history ++ more)) f.notes (none_before f.own (length (f.history ++ more)));
+  fresh = none_before f.own (length f.history);
+  notes = closed_notes (drop (length f.own) f.own) (length (f.history ++ more)) (length (f.history ++ more)) f.notes (omega arith) (none_before f.own (length (f.history ++ more)));
 }
 
 used_keeps : (plain : Bool) (f : FileView) (more : List Entry) (e : Entry) → KeepsFile f (used_by plain f more e)
@@ -139,7 +132,8 @@ used_keeps plain f more e = record {
   floor = refl;
   refusals = refl;
   refused = refl;
-  notes = closed_notes (drop (length f.own) (f.own ++ length (f.history ++ more) ∷ [])) (length (f.history ++ more)) f.notes (end_before f.own (length (f.history ++ more)));
+  fresh = end_before f.own (length f.history) (length (f.history ++ more)) (omega (arith, length-append f.history more));
+  notes = closed_notes (drop (length f.own) (f.own ++ length (f.history ++ more) ∷ [])) (length (f.history ++ more)) (length ((f.history ++ more) ++ e ∷ [])) f.notes (omega (arith, length-append (f.history ++ more) (e ∷ []))) (end_before f.own (length (f.history ++ more)) (length (f.history ++ more)) (omega arith));
 }
 
 -- ---- a board after a turn

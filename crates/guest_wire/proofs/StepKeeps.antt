@@ -3,6 +3,9 @@ use Rattle.std.proofs.Common.{◌≡◌, ◌∙◌, sym, refl, arith, ◌<◌, �
 use Rattle.std.proofs.lemmas.Bool.{cases_eq}
 use Rattle.std.proofs.lemmas.List.{append-nil}
 use Rattle.std.specs.List.{list_all}
+use Rattle.std.specs.Prelude.{All, ◌≤◌}
+use Rattle.std.proofs.Math.Seq.{drop-length, drop-append_seam}
+use Rattle.std.proofs.lemmas.List.Elements.{All-nil, All-cons}
 use Rattle.fuse_codec.specs.Reading.{message_of}
 use Rattle.fuse_codec.specs.declared.errors.BadRequest.{BadRequest}
 use Rattle.fuse_codec.specs.declared.messages.Message.{Message}
@@ -43,8 +46,15 @@ place_in_longer [] ys k x e = absurd cc
 place_in_longer (y ∷ xs) ys zero x e = e
 place_in_longer (y ∷ xs) ys (suc k) x e = place_in_longer xs ys k x e
 
-same_note : (made : List ℕ) (n : Note) (kept : Option Note) → kept ≡ Some n → KeepsNote made n kept
-same_note made n kept e = (n, e, refl, refl, inl refl)
+same_note : (made : List ℕ) (end : ℕ) (n : Note) (kept : Option Note) → kept ≡ Some n → KeepsNote made end n kept
+same_note made end n kept e = (n, e, refl, refl, inl refl)
+
+-- nothing, and what is made at the end, lies not before it
+pub none_before : (own : List ℕ) (end : ℕ) → All (λ place. end ≤ place) (drop (length own) own)
+none_before own end = rw (drop-length own) (All-nil (λ place. end ≤ place))
+
+pub end_before : (own : List ℕ) (least end : ℕ) → least ≤ end → All (λ place. least ≤ place) (drop (length own) (own ++ end ∷ []))
+end_before own least end later = rw (drop-append_seam own (end ∷ [])) (All-cons (λ place. least ≤ place) end [] later (All-nil (λ place. least ≤ place)))
 
 same_file : (f : FileView) → KeepsFile f f
 same_file f = record {
@@ -54,7 +64,8 @@ same_file f = record {
   floor = refl;
   refusals = refl;
   refused = refl;
-  notes = λ k n at. same_note (drop (length f.own) f.own) n (slice_get f.notes k) at;
+  fresh = none_before f.own (length f.history);
+  notes = λ k n at. same_note (drop (length f.own) f.own) (length f.history) n (slice_get f.notes k) at;
 }
 
 pub same_files : (v : BoardView) → KeepsFiles v v
@@ -76,7 +87,8 @@ with_own_keeps plain e f = record {
   floor = refl;
   refusals = refl;
   refused = refl;
-  notes = λ k n at. same_note (drop (length f.own) (f.own ++ length f.history ∷ [])) n (slice_get f.notes k) at;
+  fresh = end_before f.own (length f.history) (length f.history) (omega arith);
+  notes = λ k n at. same_note (drop (length f.own) (f.own ++ length f.history ∷ [])) (length (f.history ++ e ∷ [])) n (slice_get f.notes k) at;
 }
 
 with_note_keeps : (z : ℕ) (f : FileView) → KeepsFile f (with_note z f)
@@ -87,7 +99,8 @@ with_note_keeps z f = record {
   floor = refl;
   refusals = refl;
   refused = refl;
-  notes = λ k n at. same_note (drop (length f.own) f.own) n (slice_get (with_note z f).notes k) (place_in_longer f.notes (record { size = z; lower = length f.history; upper = None } ∷ []) k n at);
+  fresh = none_before f.own (length f.history);
+  notes = λ k n at. same_note (drop (length f.own) f.own) (length f.history) n (slice_get (with_note z f).notes k) (place_in_longer f.notes (record { size = z; lower = length f.history; upper = None } ∷ []) k n at);
 }
 
 -- one file is changed, and each is kept
