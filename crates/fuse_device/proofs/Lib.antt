@@ -10,3 +10,4 @@ pub mod Servable
 pub mod Mapped
 pub mod DataLaws
 pub mod Planning
+pub mod Numbering
