@@ -1,4 +1,3 @@
 pub mod Unlooks
-pub mod Numbering
 pub mod Handless
 pub mod Noting

@@ -3,17 +3,16 @@ ghost use Rattle.page_map.specs.Board.{MapView};
 ghost use Rattle.plain_file.specs.File.{max_file, reach};
 ghost use Rattle.plain_file.specs.Board.{IsReady};
 ghost use Rattle.fuse_device.specs.State.{is_made};
-ghost use Rattle.fuse_device.specs.Checks.{is_known, has_flag};
-ghost use Rattle.fuse_device.specs.Entries.{attr_with, dir_attr, attr_out_of};
-ghost use Rattle.fuse_device.specs.Requests.{size_in, applies, attr_reply, attr_of, resizes, getattr, setattr};
+ghost use Rattle.fuse_device.specs.Checks.{is_known};
+ghost use Rattle.fuse_device.specs.Requests.{applies, attr_reply, attr_of, resizes, getattr, setattr};
 ghost use Rattle.fuse_device.specs.Promises.{Gives, IsWithin, world};
 ghost use Rattle.fuse_device.specs.DataSteps.{HasFile};
 
-use crate::daemon::{Daemon, attr_with};
+use crate::daemon::Daemon;
 use fuse_codec::Reply;
-use fuse_device::Refused;
-use fuse_wire::{AttrOut, AttrRec, Errno, GetattrIn, SetattrIn};
-use plain_file::{Answer, BoardRefusal, FileBoard, MAX_FILE, Op};
+use fuse_device::{Refused, attr_out_of, dir_attr, has_flag, size_in};
+use fuse_wire::{Errno, GetattrIn, SetattrIn};
+use plain_file::{BoardRefusal, FileBoard, MAX_FILE, Op};
 use std::alloc::Global;
 
 impl Daemon {
@@ -135,42 +134,5 @@ impl Daemon {
             return self.resizes(alloc, node, r.size, files);
         }
         self.attr_of(alloc, node, files)
-    }
-}
-
-// Whether a bit is set.
-pub(crate) fn has_flag(flags: u32, mask: u32) -> bool
-    ensures { result ≡ has_flag flags mask }
-{
-    flags & mask != 0
-}
-
-// The size that is answered.
-#[tactic(auto, unfolding(fuse_device::specs::Requests::size_in))]
-fn size_in(answer: &Answer) -> u64
-    ensures { result ≡ size_in answer.now }
-{
-    match answer {
-        Answer::Size(n) => *n,
-        Answer::Bytes(_) | Answer::Wrote(_) => 0,
-    }
-}
-
-// The attributes of the directory.
-#[tactic(auto, unfolding(fuse_device::specs::Entries::dir_attr))]
-fn dir_attr() -> AttrRec
-    ensures { result ≡ dir_attr }
-{
-    attr_with(1, 0, 0o40755, 2)
-}
-
-// Attributes that are good for no time.
-fn attr_out_of(attr: AttrRec) -> AttrOut
-    ensures { result ≡ attr_out_of attr }
-{
-    AttrOut {
-        attr_valid: 0,
-        attr_valid_nsec: 0,
-        attr,
     }
 }

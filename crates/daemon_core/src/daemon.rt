@@ -4,10 +4,10 @@ ghost use Rattle.std.specs.Str.{bytes_eq};
 ghost use Rattle.fuse_wire.specs.declared.forgets.ForgetOne.{ForgetOne};
 ghost use Rattle.fuse_device.specs.State.{new_state, new_file, is_made, made_at, named, has_name, is_open, looked_up, unnamed, with_new_file, unlooked, with_open, without_open, begun, ended};
 ghost use Rattle.fuse_device.specs.Checks.{is_known, is_handle, may_open};
-ghost use Rattle.fuse_device.specs.Entries.{attr_with, file_attr, open_out_of};
+ghost use Rattle.fuse_device.specs.Entries.{file_attr, open_out_of};
 ghost use Rattle.fuse_device.specs.Requests.{forgotten, all_forgotten};
 
-use fuse_device::{Kind, MadeFile, Opened};
+use fuse_device::{Kind, MadeFile, Opened, attr_with};
 use fuse_wire::{AttrRec, ForgetOne, OpenOut};
 use plain_file::{List, Memory, Name};
 use std::alloc::Global;
@@ -275,30 +275,6 @@ impl Daemon {
             self.give_back(one.nodeid, one.nlookup);
             rest = after;
         }
-    }
-}
-
-// The attributes of a node.
-pub(crate) fn attr_with(node: u64, size: u64, mode: u32, nlink: u32) -> AttrRec
-    ensures { result ≡ attr_with node size mode nlink }
-{
-    AttrRec {
-        ino: node,
-        size,
-        blocks: size.div_ceil(512),
-        atime: 0,
-        mtime: 0,
-        ctime: 0,
-        atimensec: 0,
-        mtimensec: 0,
-        ctimensec: 0,
-        mode,
-        nlink,
-        uid: 0,
-        gid: 0,
-        rdev: 0,
-        blksize: 4096,
-        flags: 0,
     }
 }
 

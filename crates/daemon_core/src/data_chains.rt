@@ -2,14 +2,15 @@ ghost use Rattle.std.specs.Prelude.{◌≡◌, ◌≤◌, length, true, IfOk, On
 ghost use Rattle.plain_file.specs.Limits.{max_part};
 ghost use Rattle.fuse_codec.specs.Grammar.{is_bounded};
 ghost use Rattle.fuse_device.specs.Steps.{wanted_room, replied};
-ghost use Rattle.fuse_device.specs.DataSteps.{is_data, data_answered, data_judged_message, data_step, CanServeData, CanStepData};
+ghost use Rattle.fuse_device.specs.DataSteps.{data_answered, data_judged_message, data_step, CanServeData, CanStepData};
 ghost use Rattle.fuse_device.specs.Plans.{IsBoundedPlan, CanServePlan, plan_step};
 ghost use Rattle.fuse_device.specs.Promises.{Gives, IsWithin, Steps, world};
 
 use crate::daemon::Daemon;
-use crate::steps::{put_error, refusal, wanted_room, with_room};
 use fuse_codec::{Message, Reply, Request, put_reply};
-use fuse_device::{Plan, Refused, plan_chain};
+use fuse_device::{
+    Plan, Refused, is_data, plan_chain, put_error, refusal, wanted_room, with_room,
+};
 use fuse_wire::Errno;
 use page_map::MapBoard;
 use plain_file::{Blob, FileBoard, Memory};
@@ -160,23 +161,5 @@ impl Daemon {
     {
         let plan = plan_chain(alloc, readable, room)?;
         self.serve_plan(alloc, plan, room, files, map)
-    }
-}
-
-// Whether a request is carried out while the daemon stays as it is.
-#[tactic(auto, unfolding(fuse_device::specs::DataSteps::is_data))]
-fn is_data(body: &Request) -> bool
-    ensures { result ≡ is_data body.now }
-{
-    match body {
-        Request::Getattr(_)
-        | Request::Setattr(_)
-        | Request::Read(_)
-        | Request::Write { .. }
-        | Request::Fsync(_)
-        | Request::Flush(_)
-        | Request::Setup(_)
-        | Request::Remove { .. } => true,
-        _ => false,
     }
 }

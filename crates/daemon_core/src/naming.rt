@@ -3,13 +3,12 @@ ghost use Rattle.page_map.specs.Board.{MapView};
 ghost use Rattle.plain_file.specs.Board.{BoardView, IsReady, file_at, size_of, noted};
 ghost use Rattle.fuse_device.specs.Checks.{may_open};
 ghost use Rattle.fuse_device.specs.Entries.{entry_of};
-ghost use Rattle.fuse_device.specs.Requests.{found, lookup, unlinked, unlink, opens_entry, makes_entry, created, create, is_dots, forget, batch_forget};
+ghost use Rattle.fuse_device.specs.Requests.{found, lookup, unlinked, unlink, opens_entry, makes_entry, created, create, forget, batch_forget};
 ghost use Rattle.fuse_device.specs.Promises.{Gives, IsWithin, HasFiles, HasNext, world};
 
-use crate::attributes::has_flag;
 use crate::daemon::Daemon;
 use fuse_codec::Reply;
-use fuse_device::Refused;
+use fuse_device::{Refused, has_flag, is_dots};
 use fuse_wire::{CreateIn, EntryOut, Errno, ForgetOne};
 use plain_file::{FileBoard, MAX_FILES, Name};
 
@@ -228,11 +227,4 @@ impl Daemon {
         self.give_back_each(ones);
         Ok(Reply::Done)
     }
-}
-
-// A name that the directory doesn't keep.
-fn is_dots(name: &[u8]) -> bool
-    ensures { result ≡ is_dots name.now }
-{
-    name == b".".as_slice() || name == b"..".as_slice()
 }

@@ -1,12 +1,12 @@
 ghost use Rattle.std.specs.Prelude.{◌≡◌, length, true, IfOk};
 ghost use Rattle.fuse_codec.specs.Grammar.{is_bounded};
-ghost use Rattle.fuse_device.specs.Requests.{answered, is_init, is_forget, served};
+ghost use Rattle.fuse_device.specs.Requests.{answered, served};
 ghost use Rattle.fuse_device.specs.Steps.{wanted_room};
 ghost use Rattle.fuse_device.specs.Promises.{Gives, IsWithin, CanServe, world};
 
 use crate::daemon::Daemon;
 use fuse_codec::{Message, Reply, Request};
-use fuse_device::Refused;
+use fuse_device::{Refused, is_forget, is_init};
 use fuse_wire::Errno;
 use page_map::MapBoard;
 use plain_file::FileBoard;
@@ -86,27 +86,5 @@ impl Daemon {
             return Ok(Reply::Done);
         }
         Err(Refused::Errno(Errno::EIO))
-    }
-}
-
-// Whether a request is an INIT.
-#[tactic(auto, unfolding(fuse_device::specs::Requests::is_init))]
-pub(crate) fn is_init(body: &Request) -> bool
-    ensures { result ≡ is_init body.now }
-{
-    match body {
-        Request::Init(_) => true,
-        _ => false,
-    }
-}
-
-// Whether a request has no reply.
-#[tactic(auto, unfolding(fuse_device::specs::Requests::is_forget))]
-fn is_forget(body: &Request) -> bool
-    ensures { result ≡ is_forget body.now }
-{
-    match body {
-        Request::Forget { .. } | Request::BatchForget { .. } => true,
-        _ => false,
     }
 }

@@ -1,14 +1,13 @@
 ghost use Rattle.std.specs.Prelude.{◌≡◌, IfOk};
 ghost use Rattle.page_map.specs.Board.{MapView};
 ghost use Rattle.plain_file.specs.Board.{BoardView};
-ghost use Rattle.fuse_device.specs.Entries.{session_flags, init_out_with};
 ghost use Rattle.fuse_device.specs.Requests.{init};
 ghost use Rattle.fuse_device.specs.Promises.{Gives, IsWithin, world};
 
 use crate::daemon::Daemon;
 use fuse_codec::Reply;
-use fuse_device::Refused;
-use fuse_wire::{Errno, FUSE_MAP_ALIGNMENT, InitIn, InitOut};
+use fuse_device::{Refused, init_out, session_flags};
+use fuse_wire::{Errno, InitIn};
 
 impl Daemon {
     // INIT.
@@ -23,35 +22,5 @@ impl Daemon {
         let flags = session_flags(self.pages(), r);
         self.begin();
         Ok(Reply::Init(init_out(flags, r)))
-    }
-}
-
-// The flags that the session has.
-fn session_flags(pages: u32, r: &InitIn) -> u32
-    ensures { result ≡ session_flags pages r.now }
-{
-    if pages == 0 {
-        0
-    } else {
-        r.flags & FUSE_MAP_ALIGNMENT
-    }
-}
-
-// What a session with these flags is told.
-fn init_out(flags: u32, r: &InitIn) -> InitOut
-    ensures { result ≡ init_out_with flags r.now }
-{
-    InitOut {
-        major: 7,
-        minor: 31,
-        max_readahead: r.max_readahead,
-        flags,
-        max_background: 16,
-        congestion_threshold: 12,
-        max_write: 1_048_576,
-        time_gran: 1,
-        max_pages: 0,
-        map_alignment: if flags == 0 { 0 } else { 12 },
-        flags2: 0,
     }
 }

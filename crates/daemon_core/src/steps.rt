@@ -1,22 +1,19 @@
-ghost use Rattle.std.specs.Prelude.{◌≡◌, ◌≤◌, [], length, min, true, Err, vec_capacity, IfOk, OnOk, OnErr};
+ghost use Rattle.std.specs.Prelude.{◌≡◌, ◌≤◌, length, true, IfOk, OnOk, OnErr};
 ghost use Rattle.plain_file.specs.Limits.{max_part};
 ghost use Rattle.fuse_codec.specs.Grammar.{is_bounded};
 ghost use Rattle.fuse_codec.specs.Reading.{message_of};
-ghost use Rattle.fuse_codec.specs.Replies.{clean_reply};
-ghost use Rattle.fuse_device.specs.Steps.{wanted_room, reply_to, judged_message, forgot, replied, device_step};
+ghost use Rattle.fuse_device.specs.Steps.{wanted_room, judged_message, forgot, replied, device_step};
 ghost use Rattle.fuse_device.specs.Promises.{Gives, IsWithin, CanServe, CanStep, Steps, world};
 
 use crate::daemon::Daemon;
-use crate::serving::is_init;
-use fuse_codec::{BadRequest, MAX_TRANSFER, Message, Reply, Request, decode_request, put_reply};
-use fuse_device::{Plan, Refused, is_forget_chain, plan_chain};
-use fuse_wire::{Errno, OutHeader};
+use fuse_codec::{BadRequest, Message, Reply, decode_request, put_reply};
+use fuse_device::{
+    Plan, Refused, is_forget_chain, is_init, plan_chain, put_error, refusal, wanted_room, with_room,
+};
+use fuse_wire::Errno;
 use page_map::MapBoard;
 use plain_file::{Blob, FileBoard, Memory};
 use std::alloc::Global;
-
-// The most bytes that a reply takes with its header.
-const MAX_REPLY: u64 = OutHeader::SIZE as u64 + MAX_TRANSFER as u64;
 
 impl Daemon {
     // Judges the session and the room for the reply, then serves the request.
@@ -141,44 +138,4 @@ impl Daemon {
             Plan::Carry(message) => self.answer_message(alloc, message, room, files, map),
         }
     }
-}
-
-// The room that a request's reply wants.
-#[tactic(auto, unfolding(fuse_codec::specs::Grammar::form_room))]
-pub(crate) fn wanted_room(body: &Request) -> u64
-    ensures value { result ≡ wanted_room body.now }
-    ensures least { 16 ≤ result }
-{
-    body.room().unwrap_or(16)
-}
-
-// Room for a request's reply, and for an error.
-pub(crate) fn with_room(alloc: Global, body: &Request) -> Result<Vec<u8>, Memory>
-    ensures empty { IfOk result (λ out. out.items ≡ []) }
-    ensures reply { IfOk result (λ out. min (wanted_room body.now) 1048592 ≤ vec_capacity out) }
-    ensures error { IfOk result (λ out. 16 ≤ vec_capacity out) }
-{
-    let most = wanted_room(body).min(MAX_REPLY);
-    Ok(Vec::with_capacity(alloc, most as usize)?)
-}
-
-// Puts an error into room that is there.
-#[tactic(auto, unfolding(fuse_device::specs::Steps::reply_to, fuse_codec::specs::Replies::reply_parts, fuse_codec::specs::Replies::is_reply))]
-pub(crate) fn put_error(out: &mut Vec<u8>, error: Errno, unique: u64)
-    requires room { 16 ≤ vec_capacity out.old }
-    requires empty { out.old.items ≡ [] }
-    ensures { out.new.items ≡ clean_reply unique (reply_to (Err error)) }
-{
-    let reply = Reply::Error {
-        number: error.number(),
-    };
-    put_reply(out, &reply, unique);
-}
-
-pub(crate) fn refusal(alloc: Global, error: Errno, unique: u64) -> Result<Blob, Memory>
-    ensures { IfOk result (λ b. b ≡ clean_reply unique (reply_to (Err error))) }
-{
-    let mut out = Vec::with_capacity(alloc, OutHeader::SIZE)?;
-    put_error(&mut out, error, unique);
-    Ok(Blob::from_vec(out))
 }

@@ -1,16 +1,14 @@
 ghost use Rattle.std.specs.Prelude.{◌≡◌, ◌+◌, length, IfOk};
-ghost use Rattle.plain_file.specs.Limits.{max_transfer};
 ghost use Rattle.page_map.specs.Board.{MapView};
-ghost use Rattle.fuse_device.specs.Checks.{is_past};
-ghost use Rattle.fuse_device.specs.Requests.{bytes_reply, applies, read, write};
+ghost use Rattle.fuse_device.specs.Requests.{read, write};
 ghost use Rattle.fuse_device.specs.Promises.{Gives, IsWithin, world};
 ghost use Rattle.fuse_device.specs.DataSteps.{HasFile};
 
 use crate::daemon::Daemon;
 use fuse_codec::{MAX_TRANSFER, Reply};
-use fuse_device::Refused;
+use fuse_device::{Refused, bytes_reply, is_past};
 use fuse_wire::{Errno, ReadIn, WriteIn, WriteOut};
-use plain_file::{Answer, Blob, BoardRefusal, FileBoard, List, MAX_FILE, Op};
+use plain_file::{Blob, BoardRefusal, FileBoard, Op};
 use std::alloc::Global;
 
 impl Daemon {
@@ -88,23 +86,5 @@ impl Daemon {
             Err(BoardRefusal::Unbarred { .. }) => Err(Refused::Errno(Errno::EBUSY)),
             Err(BoardRefusal::Memory) => Err(Refused::Memory),
         }
-    }
-}
-
-// Whether an interval ends above the largest size of a file.
-pub(crate) fn is_past(offset: u64, len: u64) -> bool
-    ensures { result ≡ is_past offset len }
-{
-    offset > MAX_FILE || len > MAX_FILE - offset
-}
-
-// The reply to a read.
-#[tactic(auto, unfolding(fuse_device::specs::Requests::bytes_reply))]
-fn bytes_reply(alloc: Global, answer: Answer) -> Reply
-    ensures { result ≡ bytes_reply answer }
-{
-    match answer {
-        Answer::Bytes(bytes) => Reply::Bytes(bytes),
-        Answer::Wrote(_) | Answer::Size(_) => Reply::Bytes(List::new(alloc)),
     }
 }

@@ -1,14 +1,11 @@
-ghost use Rattle.std.specs.Prelude.{◌≡◌, ◌≤◌, length, is_some};
+ghost use Rattle.std.specs.Prelude.{◌≡◌, ◌≤◌, length};
 ghost use Rattle.plain_file.specs.Limits.{max_part};
-ghost use Rattle.fuse_codec.specs.Opcodes.{opcode_of};
-ghost use Rattle.fuse_codec.specs.Reading.{write_of};
-ghost use Rattle.fuse_device.specs.DataSteps.{is_on_file, is_file_body, is_body_on_file, file_of, named_in, named_file};
+ghost use Rattle.fuse_device.specs.DataSteps.{file_of, named_in, named_file};
 ghost use Rattle.fuse_device.specs.Plans.{plan_file};
 
 use crate::daemon::Daemon;
-use fuse_codec::{MAX_TRANSFER, Opcode, Request};
-use fuse_device::{Plan, header_at};
-use fuse_wire::{GetattrIn, InHeader, ReadIn, SetattrIn, WriteIn};
+use fuse_device::{Plan, header_at, is_body_on_file, is_on_file};
+use fuse_wire::InHeader;
 
 impl Daemon {
     // The file of a node, where it is a known file's.
@@ -68,56 +65,4 @@ impl Daemon {
         let (_, body) = readable.split_at(InHeader::SIZE);
         self.named_in(&header, body)
     }
-}
-
-// Whether a request is for a file's bytes or attributes.
-#[tactic(auto, unfolding(fuse_device::specs::DataSteps::is_on_file))]
-fn is_on_file(body: &Request) -> bool
-    ensures { result ≡ is_on_file body.now }
-{
-    match body {
-        Request::Getattr(_) | Request::Setattr(_) | Request::Read(_) | Request::Write { .. } => {
-            true
-        }
-        _ => false,
-    }
-}
-
-// Whether bytes are the body of a request for a file's bytes or attributes.
-#[tactic(auto, unfolding(fuse_device::specs::DataSteps::is_file_body))]
-fn is_file_body(opcode: Opcode, body: &[u8]) -> bool
-    ensures { result ≡ is_file_body opcode body.now }
-{
-    match opcode {
-        Opcode::Getattr => GetattrIn::read(body).is_some(),
-        Opcode::Setattr => SetattrIn::read(body).is_some(),
-        Opcode::Read => ReadIn::read(body).is_some(),
-        Opcode::Write => is_write(body),
-        _ => false,
-    }
-}
-
-// The same, by the operation's number.
-fn is_body_on_file(opcode: u32, body: &[u8]) -> bool
-    ensures { result ≡ is_body_on_file (opcode_of opcode) body.now }
-{
-    match Opcode::of(opcode) {
-        Some(opcode) => is_file_body(opcode, body),
-        None => false,
-    }
-}
-
-// Whether bytes are the body of a WRITE.
-#[tactic(auto, unfolding(fuse_codec::specs::Reading::write_of, fuse_codec::specs::Reading::write_with, fuse_wire::specs::Records::write_in_of))]
-fn is_write(body: &[u8]) -> bool
-    ensures { result ≡ is_some (write_of body.now) }
-{
-    if body.len() < WriteIn::SIZE {
-        return false;
-    }
-    let (front, rest) = body.split_at(WriteIn::SIZE);
-    let Some(head) = WriteIn::read(front) else {
-        return false;
-    };
-    head.size as usize == rest.len() && rest.len() <= MAX_TRANSFER as usize
 }

@@ -6,6 +6,9 @@
 //! request means, the limits, and the order in which a request is refused are this project's own.
 //! Node 1 is the directory, and file i of the board has node i + 2.
 //!
+//! [`plan_chain`] takes the first seven steps, which look at the chain alone. The other functions are the
+//! words of the definition, one each, for the daemon to ask.
+//!
 //! `specs/Steps.antt` states the step by its ordered refusals, `specs/Requests.antt` what each request
 //! means, with its checks in `specs/Checks.antt` and what is told of nodes in `specs/Entries.antt`, over
 //! the state of `specs/State.antt`. `specs/Promises.antt` has the forms of a daemon's contracts and what
@@ -24,10 +27,20 @@
 //! read as that reply.
 #![tactic(auto)]
 
+mod answers;
+mod listing;
 mod plans;
 mod refusals;
+mod replies;
+mod requests;
 mod tables;
+mod windows;
 
+pub use answers::{attr_out_of, attr_with, bytes_reply, dir_attr, init_out, session_flags, size_in};
+pub use listing::{numbered_entries, pass_over};
 pub use plans::{Plan, header_at, is_forget_chain, plan_chain};
 pub use refusals::Refused;
+pub use replies::{put_error, refusal, with_room};
+pub use requests::{has_flag, is_body_on_file, is_data, is_dots, is_forget, is_init, is_on_file, wanted_room};
 pub use tables::{Kind, MadeFile, Opened};
+pub use windows::{all_clear, all_whole, clear_all, clear_window, is_bad_setup, is_past, span_of};

@@ -1,6 +1,6 @@
 use Rattle.std.proofs.Common.{◌≡◌}
-use Rattle.daemon_core.proofs.Numbering.{numbered_to}
-use Rattle.daemon_core.proofs.listing.number.Given as goal
+use Rattle.fuse_device.proofs.Numbering.{numbered_to}
+use Rattle.fuse_device.proofs.listing.number.Given as goal
 
 abbrev pub invariant-loop-i : goal.invariant-loop-i
 invariant-loop-i l = l.entries.items ≡ numbered_to 1 l.i l.fn.entries.items

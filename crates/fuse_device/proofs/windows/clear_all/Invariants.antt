@@ -1,7 +1,7 @@
 use Rattle.std.proofs.Common.{◌≡◌, length}
 use Rattle.fuse_device.specs.State.{all_cleared}
 use Rattle.fuse_device.proofs.Clears.{AreClearable}
-use Rattle.daemon_core.proofs.mappings.clear_all.Given as goal
+use Rattle.fuse_device.proofs.windows.clear_all.Given as goal
 
 abbrev pub invariant-loop-one : goal.invariant-loop-one
 invariant-loop-one g l = record {

@@ -1,6 +1,6 @@
 use Rattle.std.proofs.Common.{◌≡◌, ◌+◌, ◌≤◌, [], length}
 use Rattle.fuse_device.specs.Entries.{with_entries}
-use Rattle.daemon_core.proofs.listing.with_entries.Given as goal
+use Rattle.fuse_device.proofs.listing.with_entries.Given as goal
 
 abbrev pub invariant-loop-file : goal.invariant-loop-file
 invariant-loop-file l = record {

@@ -1,5 +1,5 @@
 use Rattle.std.proofs.Common.{◌≡◌, drop}
-use Rattle.daemon_core.proofs.listing.pass_over.Given as goal
+use Rattle.fuse_device.proofs.listing.pass_over.Given as goal
 
 abbrev pub invariant-loop-left : goal.invariant-loop-left
 invariant-loop-left l = drop l.left l.entries.items ≡ drop l.fn.count l.fn.entries.items

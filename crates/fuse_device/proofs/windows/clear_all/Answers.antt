@@ -3,7 +3,7 @@ use Rattle.fuse_wire.specs.declared.mappings.RemoveOne.{RemoveOne}
 use Rattle.page_map.specs.Board.{MapView}
 use Rattle.fuse_device.specs.State.{all_cleared}
 use Rattle.fuse_device.proofs.Clears.{clear_step, first_clearable, wiped_len}
-use Rattle.daemon_core.proofs.mappings.clear_all.Goals as goal
+use Rattle.fuse_device.proofs.windows.clear_all.Goals as goal
 
 pub loop-one-preserved : goal.loop-one-preserved
 loop-one-preserved g c =
