@@ -11,36 +11,67 @@ const A: FileRef = FileRef { node: 2, fh: 1 };
 // A client whose wire fails at each request, and whose requests are kept.
 type Client = Driver<KeepWire<FakeWire>>;
 
-fn failed<V: Drop>(rt: &impl Abort, answer: Result<V, WireRefusal>) {
+// A call of the client.
+#[derive(Clone, Copy, Drop)]
+enum Call {
+    Init,
+    Lookup,
+    OpenFile,
+    Write,
+    Read,
+    SetattrSize,
+    Getattr,
+    Setup(Mode),
+    Remove,
+    Release,
+    Destroy,
+}
+
+const CALLS: [Call; 12] = [
+    Call::Init,
+    Call::Lookup,
+    Call::OpenFile,
+    Call::Write,
+    Call::Read,
+    Call::SetattrSize,
+    Call::Getattr,
+    Call::Setup(Mode::R),
+    Call::Setup(Mode::W),
+    Call::Remove,
+    Call::Release,
+    Call::Destroy,
+];
+
+fn failed<V: Drop>(answer: Result<V, WireRefusal>) -> bool {
     match answer {
-        Err(WireRefusal::WireFault) => {}
-        _ => panic!(rt; "no fault"),
+        Err(WireRefusal::WireFault) => true,
+        _ => false,
     }
 }
 
-// Makes each call once, about file "a" and its handle.
-fn ask_each<R: Abort + Wait>(
+// Makes a call, about file "a" and its handle, and tells whether the wire failed.
+fn fails<R: Wait>(
     rt: &R,
     alloc: Global,
     client: &mut Client,
     name: &Name,
-) -> Result<(), Fail> {
-    let mut files = PlainFiles::new(alloc, 0, &List::new(alloc))?;
-    let mut map = PageMap::new(alloc, 0)?;
-    let (files, map) = (&mut files, &mut map);
-    failed(rt, client.init(rt, alloc, true, files, map));
-    failed(rt, client.lookup(rt, alloc, name, files, map));
-    failed(rt, client.open_file(rt, alloc, 2, files, map));
-    failed(rt, client.write(rt, alloc, A, 3, b"hello", files, map));
-    failed(rt, client.read(rt, alloc, A, 0, 9, files, map));
-    failed(rt, client.setattr_size(rt, alloc, A, 4, files, map));
-    failed(rt, client.getattr(rt, alloc, A, files, map));
-    failed(rt, client.setup(rt, alloc, 2, 1, 2, Mode::R, files, map));
-    failed(rt, client.setup(rt, alloc, 2, 1, 2, Mode::W, files, map));
-    failed(rt, client.remove(rt, alloc, 2, 2, files, map));
-    failed(rt, client.release(rt, alloc, A, files, map));
-    failed(rt, client.destroy(rt, alloc, files, map));
-    Ok(())
+    files: &mut PlainFiles,
+    map: &mut PageMap,
+    call: Call,
+) -> bool {
+    match call {
+        Call::Init => failed(client.init(rt, alloc, true, files, map)),
+        Call::Lookup => failed(client.lookup(rt, alloc, name, files, map)),
+        Call::OpenFile => failed(client.open_file(rt, alloc, 2, files, map)),
+        Call::Write => failed(client.write(rt, alloc, A, 3, b"hello", files, map)),
+        Call::Read => failed(client.read(rt, alloc, A, 0, 9, files, map)),
+        Call::SetattrSize => failed(client.setattr_size(rt, alloc, A, 4, files, map)),
+        Call::Getattr => failed(client.getattr(rt, alloc, A, files, map)),
+        Call::Setup(mode) => failed(client.setup(rt, alloc, 2, 1, 2, mode, files, map)),
+        Call::Remove => failed(client.remove(rt, alloc, 2, 2, files, map)),
+        Call::Release => failed(client.release(rt, alloc, A, files, map)),
+        Call::Destroy => failed(client.destroy(rt, alloc, files, map)),
+    }
 }
 
 // Each call sends one request with the next number, whatever comes of it.
@@ -50,9 +81,14 @@ fn sends_each_request_once(rt: HostRuntime) -> Result<(), Fail> {
     let Some(name) = Name::copy_of(alloc, b"a")? else {
         panic!(&rt; "no name")
     };
-    let fails = FakeWire::new(List::new(alloc));
-    let mut client = Driver::new(KeepWire::new(alloc, fails));
-    ask_each(&rt, alloc, &mut client, &name)?;
+    let wire = FakeWire::new(List::new(alloc));
+    let mut client = Driver::new(KeepWire::new(alloc, wire));
+    let mut files = PlainFiles::new(alloc, 0, &List::new(alloc))?;
+    let mut map = PageMap::new(alloc, 0)?;
+    for call in CALLS {
+        let is_failed = fails(&rt, alloc, &mut client, &name, &mut files, &mut map, call);
+        assert!(rt; is_failed);
+    }
     assert_eq!(rt; client.unique, 12);
     sent_by_all(&rt, client.wire.requests().as_slice());
     Ok(())
