@@ -35,13 +35,9 @@ mod check_tests;
 #[cfg(test)]
 mod data_tests;
 #[cfg(test)]
-mod listing_tests;
-#[cfg(test)]
 mod naming_tests;
 #[cfg(test)]
 mod session_tests;
-#[cfg(test)]
-mod test_boards;
 #[cfg(test)]
 mod test_chains;
 #[cfg(test)]

@@ -11,3 +11,4 @@ pub mod Mapped
 pub mod DataLaws
 pub mod Planning
 pub mod Numbering
+pub mod Unlooks

@@ -42,5 +42,5 @@ pub use plans::{Plan, header_at, is_forget_chain, plan_chain};
 pub use refusals::Refused;
 pub use replies::{put_error, refusal, with_room};
 pub use requests::{has_flag, is_body_on_file, is_data, is_dots, is_forget, is_init, is_on_file, wanted_room};
-pub use tables::{Kind, MadeFile, Opened};
+pub use tables::{Kind, MadeFile, Opened, close_in, has_name, unlook};
 pub use windows::{all_clear, all_whole, clear_all, clear_window, is_bad_setup, is_past, span_of};
