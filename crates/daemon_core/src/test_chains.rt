@@ -202,10 +202,7 @@ the directory; 27; 1; 32; 0; z8; q3 z8
 ";
 
 /// The first line of a table that is answered otherwise, on a device of its own after [`BEGIN`].
-pub fn odd_after_begin(
-    alloc: Global,
-    table: &'static str,
-) -> Result<Option<&'static str>, Memory> {
+pub fn odd_after_begin(alloc: Global, table: &'static str) -> Result<Option<&'static str>, Memory> {
     let (mut daemon, mut files, mut map) = device(alloc)?;
     match odd_line(alloc, &mut daemon, &mut files, &mut map, BEGIN)? {
         Some(line) => Ok(Some(line)),

@@ -1,6 +1,6 @@
 ghost use Rattle.std.specs.Prelude.{◌≡◌, ◌≤◌, length};
 ghost use Rattle.fuse_codec.specs.Grammar.{max_part};
-ghost use Rattle.fuse_device.specs.DataSteps.{file_of, named_file};
+ghost use Rattle.fuse_device.specs.DataSteps.{file_of, named_in, named_file};
 ghost use Rattle.fuse_device.specs.Plans.{plan_file};
 
 use crate::daemon::Daemon;
@@ -14,6 +14,17 @@ impl Daemon {
     {
         if node != 1 && self.is_known(node) {
             Some(self.file_of(node))
+        } else {
+            None
+        }
+    }
+
+    // The file that a whole header and a body name.
+    fn named_in(&self, header: &InHeader, body: &[u8]) -> Option<u32>
+        ensures { result ≡ named_in self.now header.now body.now }
+    {
+        if is_body_on_file(header.opcode, body) {
+            self.file_at(header.nodeid)
         } else {
             None
         }
@@ -52,10 +63,6 @@ impl Daemon {
             return None;
         }
         let (_, body) = readable.split_at(InHeader::SIZE);
-        if is_body_on_file(header.opcode, body) {
-            self.file_at(header.nodeid)
-        } else {
-            None
-        }
+        self.named_in(&header, body)
     }
 }

@@ -12,3 +12,4 @@ pub mod DataLaws
 pub mod Planning
 pub mod Numbering
 pub mod Unlooks
+pub mod Acting
