@@ -1,3 +1,1 @@
-pub mod Unlooks
-pub mod Handless
 pub mod Noting

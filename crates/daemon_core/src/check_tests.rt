@@ -1,4 +1,4 @@
-use crate::test_chains::{BEGIN, device, odd_line};
+use crate::test_chains::{BEGIN, device, odd_after_begin, odd_line};
 use std::test::Fail;
 
 // Two causes stand together, and the earlier check decides. Node 20 is no file's, handle 99 isn't open, and the
@@ -91,34 +91,6 @@ const ANY_NODE: &str = "
 any node; 49; 20; 16; 0; d2 q4096 q4096 q4096 q4096;
 ";
 
-#[test]
-fn names_and_handles(rt: HostRuntime) -> Result<(), Fail> {
-    let alloc = rt.alloc();
-    let (mut daemon, mut files, mut map) = device(alloc)?;
-    let odd = odd_line(alloc, &mut daemon, &mut files, &mut map, BEGIN)?;
-    assert_eq!(rt; odd, None);
-    let odd = odd_line(alloc, &mut daemon, &mut files, &mut map, NAMES_AND_HANDLES)?;
-    assert_eq!(rt; odd, None);
-    Ok(())
-}
-
-#[test]
-fn sizes_bytes_and_mappings(rt: HostRuntime) -> Result<(), Fail> {
-    let alloc = rt.alloc();
-    let (mut daemon, mut files, mut map) = device(alloc)?;
-    let odd = odd_line(alloc, &mut daemon, &mut files, &mut map, BEGIN)?;
-    assert_eq!(rt; odd, None);
-    let odd = odd_line(
-        alloc,
-        &mut daemon,
-        &mut files,
-        &mut map,
-        SIZES_BYTES_AND_MAPPINGS,
-    )?;
-    assert_eq!(rt; odd, None);
-    Ok(())
-}
-
 // One interval that is none keeps all of them from being cleared.
 #[test]
 fn intervals(rt: HostRuntime) -> Result<(), Fail> {
@@ -132,5 +104,13 @@ fn intervals(rt: HostRuntime) -> Result<(), Fail> {
     let odd = odd_line(alloc, &mut daemon, &mut files, &mut map, ANY_NODE)?;
     assert_eq!(rt; odd, None);
     assert!(rt; map.find(4096).is_none());
+    Ok(())
+}
+
+#[test]
+fn checks(rt: HostRuntime) -> Result<(), Fail> {
+    for table in [NAMES_AND_HANDLES, SIZES_BYTES_AND_MAPPINGS] {
+        assert_eq!(rt; odd_after_begin(rt.alloc(), table)?, None);
+    }
     Ok(())
 }

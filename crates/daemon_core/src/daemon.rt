@@ -1,13 +1,13 @@
-ghost use Rattle.std.specs.Prelude.{◌≡◌, ◌≢◌, ◌<◌, ◌≤◌, ◌-◌, ◌+◌, ◌||◌, length, true, IfOk, IfSome, OnOk, OnErr, map, filter, not, ◌==◌};
+ghost use Rattle.std.specs.Prelude.{◌≡◌, ◌≢◌, ◌<◌, ◌≤◌, ◌-◌, ◌+◌, ◌||◌, length, true, IfOk, IfSome, OnOk, OnErr, map};
 ghost use Rattle.std.specs.List.{IsDistinct};
 ghost use Rattle.std.specs.Str.{bytes_eq};
 ghost use Rattle.fuse_wire.specs.declared.forgets.ForgetOne.{ForgetOne};
-ghost use Rattle.fuse_device.specs.State.{new_state, new_file, is_made, made_at, named, has_name, is_open, looked_up, unnamed, with_new_file, unlooked, with_open, without_open, begun, ended};
+ghost use Rattle.fuse_device.specs.State.{new_state, new_file, is_made, made_at, named, is_open, looked_up, unnamed, with_new_file, with_open, without_open, begun, ended};
 ghost use Rattle.fuse_device.specs.Checks.{is_known, is_handle, may_open};
 ghost use Rattle.fuse_device.specs.Entries.{file_attr, open_out_of};
 ghost use Rattle.fuse_device.specs.Requests.{forgotten, all_forgotten};
 
-use fuse_device::{Kind, MadeFile, Opened, attr_with};
+use fuse_device::{Kind, MadeFile, Opened, attr_with, close_in, has_name, unlook};
 use fuse_wire::{AttrRec, ForgetOne, OpenOut};
 use plain_file::{List, Memory, Name};
 use std::alloc::Global;
@@ -153,13 +153,6 @@ impl Daemon {
         self.made.as_slice()
     }
 
-    pub(crate) fn count(&self) -> usize
-        ensures value { result ≡ length self.now.made }
-        ensures few { length self.now.made ≤ 16 }
-    {
-        self.made.len()
-    }
-
     // The number of a made file.
     pub(crate) fn number_of(&self, i: usize) -> u32
         requires { i < length self.now.made }
@@ -275,29 +268,5 @@ impl Daemon {
             self.give_back(one.nodeid, one.nlookup);
             rest = after;
         }
-    }
-}
-
-fn has_name(file: &MadeFile, name: &[u8]) -> bool
-    ensures { result ≡ has_name name.now file.now }
-{
-    match &file.name {
-        None => false,
-        Some(other) => name == other.as_slice(),
-    }
-}
-
-fn close_in(opened: &mut Vec<Opened>, fh: u64)
-    ensures { opened.new.items ≡ filter (λ o. not (o.fh == fh)) opened.old.items }
-{
-    opened.retain(|o| o.fh != fh);
-}
-
-#[tactic(auto, using(crate::proofs::Unlooks::one_more))]
-fn unlook(made: &mut Vec<MadeFile>)
-    ensures { made.new.items ≡ map unlooked made.old.items }
-{
-    for i in 0..made.len() {
-        made[i].lookups = 0;
     }
 }

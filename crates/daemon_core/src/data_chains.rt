@@ -8,9 +8,7 @@ ghost use Rattle.fuse_device.specs.Promises.{Gives, IsWithin, Steps, world};
 
 use crate::daemon::Daemon;
 use fuse_codec::{Message, Reply, Request, put_reply};
-use fuse_device::{
-    Plan, Refused, is_data, plan_chain, put_error, refusal, wanted_room, with_room,
-};
+use fuse_device::{Plan, Refused, is_data, plan_chain, put_error, refusal, wanted_room, with_room};
 use fuse_wire::Errno;
 use page_map::MapBoard;
 use plain_file::{Blob, FileBoard, Memory};

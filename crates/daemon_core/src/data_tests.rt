@@ -1,7 +1,6 @@
 ghost use Rattle.fuse_device.specs.Promises.{IsServable, world};
 
-use super::Daemon;
-use crate::test_boards::{BarelessFiles, HandlessMap};
+use super::{Daemon, plan_chain};
 use crate::test_chains::{BEGIN, Case, bytes_of, device};
 use fuse_codec::MAX_PART;
 use page_map::{MapBoard, PageMap};
@@ -77,16 +76,6 @@ a write of more bytes than it says; 16; 2; 0; 0; z41;
 no operation; 17; 2; 0; 0; ;
 ";
 
-// What the boards refuse is answered EBUSY, after all other checks.
-const BOARDS: &str = "
-setattr: end before board; 4; 2; 4096; 27; d8 z4 q0 q67108865 z64;
-setattr: board; 4; 2; 4096; 16; d8 z4 q0 q0 z64;
-setupmapping: parts before board; 48; 2; 4096; 22; q18446744073709551615 q0 q4096 q4 q0;
-setupmapping: board; 48; 2; 4096; 16; q18446744073709551615 q0 q4096 q3 q0;
-removemapping: parts before board; 49; 0; 4096; 22; x02 z12 x10 z6 x01 z8 x10 z6;
-removemapping: board; 49; 0; 4096; 16; x01 z12 x10 z6;
-";
-
 fn serve(
     alloc: Global,
     daemon: &Daemon,
@@ -144,6 +133,19 @@ fn carried_out(rt: HostRuntime) -> Result<(), Fail> {
     Ok(())
 }
 
+// The file whose turn these bytes need, as they tell it and as their plan tells it.
+fn turn_of(
+    alloc: Global,
+    daemon: &Daemon,
+    readable: &[u8],
+) -> Result<(Option<u32>, Option<u32>), Memory> {
+    if readable.len() > MAX_PART as usize {
+        return Err(Memory);
+    }
+    let plan = plan_chain(alloc, readable, 16)?;
+    Ok((daemon.named_file(readable), daemon.plan_file(&plan)))
+}
+
 // The first line whose request needs another turn.
 fn odd_turn(
     alloc: Global,
@@ -155,27 +157,12 @@ fn odd_turn(
             continue;
         }
         let case = Case::of(alloc, line)?;
-        if case.readable.len() > MAX_PART as usize {
-            return Err(Memory);
-        }
-        let counted = match daemon.named_file(&case.readable) {
-            Some(file) => (file as u64) + 1,
-            None => 0,
-        };
-        if counted != case.error as u64 {
+        let due = (case.error as u32).checked_sub(1);
+        if turn_of(alloc, daemon, &case.readable)? != (due, due) {
             return Ok(Some(line));
         }
     }
     Ok(None)
-}
-
-// The file whose turn these bytes need.
-fn turn_of(alloc: Global, daemon: &Daemon, parts: &str) -> Result<Option<u32>, Memory> {
-    let readable = bytes_of(alloc, parts)?;
-    if readable.len() > MAX_PART as usize {
-        return Err(Memory);
-    }
-    Ok(daemon.named_file(&readable))
 }
 
 #[test]
@@ -186,77 +173,15 @@ fn turns(rt: HostRuntime) -> Result<(), Fail> {
     assert_eq!(rt; odd, None);
     let odd = odd_turn(alloc, &daemon, TURNS)?;
     assert_eq!(rt; odd, None);
-    assert_eq!(rt; turn_of(alloc, &daemon, "d56 d3 q7 q2 z32")?, Some(0));
-    assert_eq!(rt; turn_of(alloc, &daemon, "z39")?, None);
-    assert_eq!(rt; turn_of(alloc, &daemon, "d57 d3 q7 q2 z32")?, None);
-    assert_eq!(rt;
-        turn_of(alloc, &daemon, "d56 d3 q7 q2 z12 x0100 z18")?,
-        None
-    );
-    Ok(())
-}
-
-// Serves a chain over boards that have nothing in hand.
-
-fn serve_without_hands(
-    alloc: Global,
-    daemon: &Daemon,
-    files: &PlainFiles,
-    map: &PageMap,
-    case: &Case,
-) -> Result<Blob, Memory>
-    requires { IsServable (world daemon.now files.now map.now) }
-{
-    let _ = files;
-    let mut bareless = BarelessFiles::new();
-    let mut handless = HandlessMap::new(map.pages());
-    if case.readable.len() > MAX_PART as usize {
-        return Err(Memory);
+    let parts = [
+        ("d56 d3 q7 q2 z32", Some(0)),
+        ("z39", None),
+        ("d57 d3 q7 q2 z32", None),
+        ("d56 d3 q7 q2 z12 x0100 z18", None),
+    ];
+    for (parts, due) in parts {
+        let readable = bytes_of(alloc, parts)?;
+        assert_eq!(rt; turn_of(alloc, &daemon, &readable)?, (due, due));
     }
-    daemon.serve_chain_data(
-        alloc,
-        &case.readable,
-        case.room,
-        &mut bareless,
-        &mut handless,
-    )
-}
-
-// The first line that is answered otherwise over such boards.
-fn odd_without_hands(
-    alloc: Global,
-    daemon: &Daemon,
-    files: &PlainFiles,
-    map: &PageMap,
-    table: &'static str,
-) -> Result<Option<&'static str>, Memory>
-    requires { IsServable (world daemon.now files.now map.now) }
-{
-    for line in table.lines() {
-        if line.is_empty() {
-            continue;
-        }
-        let case = Case::of(alloc, line)?;
-        let reply = serve_without_hands(alloc, daemon, files, map, &case)?;
-        if !case.is_answered(reply.as_slice()) {
-            return Ok(Some(line));
-        }
-    }
-    Ok(None)
-}
-
-#[test]
-fn refused_by_boards(rt: HostRuntime) -> Result<(), Fail> {
-    let alloc = rt.alloc();
-    let (mut daemon, mut files, mut map) = device(alloc)?;
-    let odd = crate::test_chains::odd_line(alloc, &mut daemon, &mut files, &mut map, BEGIN)?;
-    assert_eq!(rt; odd, None);
-    let odd = odd_without_hands(alloc, &daemon, &files, &map, BOARDS)?;
-    assert_eq!(rt; odd, None);
-    let longer = Case::of(
-        alloc,
-        "no memory for an entry; 4; 2; 4096; 0; d8 z4 q0 q2 z64;",
-    )?;
-    assert!(rt; serve_without_hands(alloc, &daemon, &files, &map, &longer).is_err());
     Ok(())
 }

@@ -7,7 +7,9 @@
 //! [`Daemon::serve`] a request that was decoded.
 //!
 //! [`Daemon::serve_chain_data`] serves, over a daemon that stays as it is, the operations on bytes,
-//! sizes and mappings alone, and [`Daemon::named_file`] tells which file has to be ready for them.
+//! sizes and mappings alone, and [`Daemon::named_file`] tells which file has to be ready for them. A chain
+//! may also be planned once, by [`plan_chain`]: [`Daemon::plan_file`] tells the file, and
+//! [`Daemon::serve_plan`] serves the plan.
 //!
 //! [`load_window`] and [`store_window`], of the crate below, are the guest's accesses to the window that
 //! the device maps.
@@ -35,13 +37,9 @@ mod check_tests;
 #[cfg(test)]
 mod data_tests;
 #[cfg(test)]
-mod listing_tests;
-#[cfg(test)]
 mod naming_tests;
 #[cfg(test)]
 mod session_tests;
-#[cfg(test)]
-mod test_boards;
 #[cfg(test)]
 mod test_chains;
 #[cfg(test)]

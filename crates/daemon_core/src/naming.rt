@@ -136,7 +136,7 @@ impl Daemon {
         ensures room { IfOk result (λ reply. IsWithin 160 reply) }
         ensures files { length (F.board files.new).files ≡ length (F.board files.old).files }
     {
-        let i = self.count();
+        let i = self.made().len();
         let opened = self.make(name)?;
         let entry = self.entry_of(i, files);
         self.count_up(i);
@@ -169,7 +169,7 @@ impl Daemon {
                 self.opens_entry(i, files)
             }
             None => {
-                if self.count() >= MAX_FILES as usize {
+                if self.made().len() >= MAX_FILES as usize {
                     return Err(Refused::Errno(Errno::ENOSPC));
                 }
                 if !self.may_open() {

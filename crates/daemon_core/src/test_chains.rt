@@ -200,3 +200,12 @@ file b; 35; 1; 160; 0; d128 z12 x6200; q3 z32 q3 q0 q0 z36 d33188 d1 z12 d4096 z
 file a; 14; 2; 32; 0; z8; q2 z8
 the directory; 27; 1; 32; 0; z8; q3 z8
 ";
+
+/// The first line of a table that is answered otherwise, on a device of its own after [`BEGIN`].
+pub fn odd_after_begin(alloc: Global, table: &'static str) -> Result<Option<&'static str>, Memory> {
+    let (mut daemon, mut files, mut map) = device(alloc)?;
+    match odd_line(alloc, &mut daemon, &mut files, &mut map, BEGIN)? {
+        Some(line) => Ok(Some(line)),
+        None => odd_line(alloc, &mut daemon, &mut files, &mut map, table),
+    }
+}

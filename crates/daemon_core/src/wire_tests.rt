@@ -85,13 +85,12 @@ fn odd_part(
     Ok(None)
 }
 
-fn page(foffset: u64) -> Option<Page> {
-    Some(Page {
-        node: 2,
-        foffset,
-        mode: Mode::W,
-    })
-}
+// What the first byte of that chain's chunk is mapped to.
+const PAGE: Page = Page {
+    node: 2,
+    foffset: 2_097_152,
+    mode: Mode::W,
+};
 
 // Such a chain past the window, whole, and cut into pieces of one byte.
 #[test]
@@ -109,26 +108,24 @@ fn mappings(rt: HostRuntime) -> Result<(), Fail> {
         alloc,
         "d80 d48 q7 q2 z16 xffffffffffffffff q2097152 q2097152 q3 q4194304",
     )?;
-    let gather = in_pieces(alloc, &readable)?;
-    let reply = serve_bytes(alloc, &mut daemon, &mut files, &mut map, gather.bytes(), 16)?;
-    let due = bytes_of(alloc, "d16 z4 q7")?;
-    assert_eq!(rt; reply.as_slice(), due.as_slice());
-    assert_eq!(rt; map.find(4_194_303), None);
-    assert_eq!(rt; map.find(4_194_304), page(2_097_152));
-    assert_eq!(rt; map.find(6_291_455), page(4_194_303));
-    assert_eq!(rt; map.find(6_291_456), None);
-    Ok(())
-}
-
-// The part that pieces of one byte make.
-fn in_pieces(alloc: Global, bytes: &[u8]) -> Result<Gather, Memory> {
     let mut gather = Gather::new(alloc);
-    for byte in bytes {
+    for byte in &readable {
         if gather.bytes().len() < MAX_PART as usize {
             gather.push(&[*byte])?;
         }
     }
-    Ok(gather)
+    let reply = serve_bytes(alloc, &mut daemon, &mut files, &mut map, gather.bytes(), 16)?;
+    let due = bytes_of(alloc, "d16 z4 q7")?;
+    assert_eq!(rt; reply.as_slice(), due.as_slice());
+    assert_eq!(rt; map.find(4_194_303), None);
+    assert_eq!(rt; map.find(4_194_304), Some(PAGE));
+    let last = Page {
+        foffset: 4_194_303,
+        ..PAGE
+    };
+    assert_eq!(rt; map.find(6_291_455), Some(last));
+    assert_eq!(rt; map.find(6_291_456), None);
+    Ok(())
 }
 
 #[test]

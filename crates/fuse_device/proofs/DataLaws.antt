@@ -222,60 +222,63 @@ with_header readable m e =
     ok_after (not (h.len == length readable)) (bad_requests.Length h.len (length readable)) extended m (
     ok_after (nat_lt (length readable) 40) bad_requests.Short long m e))
 
--- no forget is carried out
-forget_alone : (h : InHeader) (o : Option ForgetIn) (m : Message) → message_with h (option_map forget_of o) ≡ Ok m → is_data m.body ≡ false
-unfolding is_data
-forget_alone h None m e = absurd cc
-forget_alone h (Some r) m e =
+-- what holds of each FORGET and each BATCH_FORGET holds of a message with a number of these
+forget_body : (P : Request → Type 0) (h : InHeader) (o : Option ForgetIn) (m : Message) → ((n : ℕ) → P (asks.Forget n)) → message_with h (option_map forget_of o) ≡ Ok m → P m.body
+forget_body P h None m one e = absurd cc
+forget_body P h (Some r) m one e =
     let same : made h (forget_of r) ≡ m = cc in
-    ap (λ (x : Message). is_data x.body) (sym same)
+    subst (λ (x : Message). P x.body) same (one r.nlookup)
 
-forgets_alone : (h : InHeader) (o : Option Request) (m : Message) → ((q : Request) → o ≡ Some q → is_data q ≡ false) → message_with h o ≡ Ok m → is_data m.body ≡ false
-forgets_alone h None m none e = absurd cc
-forgets_alone h (Some q) m none e =
+forgets_alone : (P : Request → Type 0) (h : InHeader) (o : Option Request) (m : Message) → ((q : Request) → o ≡ Some q → P q) → message_with h o ≡ Ok m → P m.body
+forgets_alone P h None m each e = absurd cc
+forgets_alone P h (Some q) m each e =
     let same : made h q ≡ m = cc in
-    ap (λ (x : Message). is_data x.body) (sym same) ∙ none q refl
+    subst (λ (x : Message). P x.body) same (each q refl)
 
-some_forgets : (b : Bool) (ones : List ForgetOne) (q : Request) → (if b then Some (asks.BatchForget ones) else None) ≡ Some q → is_data q ≡ false
-unfolding is_data
-some_forgets true ones q e =
+some_forgets : (P : Request → Type 0) (b : Bool) (ones : List ForgetOne) (q : Request) → P (asks.BatchForget ones) → (if b then Some (asks.BatchForget ones) else None) ≡ Some q → P q
+some_forgets P true ones q h e =
     let same : asks.BatchForget ones ≡ q = cc in
-    ap is_data (sym same)
-some_forgets false ones q e = absurd cc
+    subst P same h
+some_forgets P false ones q h e = absurd cc
 
-by_length : (b c : Bool) (ones : List ForgetOne) (q : Request) → (if b then None else (if c then Some (asks.BatchForget ones) else None)) ≡ Some q → is_data q ≡ false
-by_length true c ones q e = absurd cc
-by_length false c ones q e = some_forgets c ones q e
+by_length : (P : Request → Type 0) (b c : Bool) (ones : List ForgetOne) (q : Request) → P (asks.BatchForget ones) → (if b then None else (if c then Some (asks.BatchForget ones) else None)) ≡ Some q → P q
+by_length P true c ones q h e = absurd cc
+by_length P false c ones q h e = some_forgets P c ones q h e
 
-forgets_body : (body : List ℕ) (q : Request) → forgets_of body ≡ Some q → is_data q ≡ false
+forgets_body : (P : Request → Type 0) → ((ones : List ForgetOne) → P (asks.BatchForget ones)) → (body : List ℕ) (q : Request) → forgets_of body ≡ Some q → P q
 unfolding forgets_of forgets_with
-forgets_body body q e = by_length (nat_lt (length body) 8) _ _ q e
+forgets_body P many body q e = by_length P (nat_lt (length body) 8) _ _ q (many _) e
 
-as_forget : (h : InHeader) (body : List ℕ) (m : Message) → message_as h (Some opcodes.Forget) body ≡ Ok m → is_data m.body ≡ false
+as_forget : (P : Request → Type 0) → ((n : ℕ) → P (asks.Forget n)) → (h : InHeader) (body : List ℕ) (m : Message) → message_as h (Some opcodes.Forget) body ≡ Ok m → P m.body
 unfolding body_of
-as_forget h body m e = forget_alone h _ m e
+as_forget P one h body m e = forget_body P h _ m one e
 
-as_forgets : (h : InHeader) (body : List ℕ) (m : Message) → message_as h (Some opcodes.BatchForget) body ≡ Ok m → is_data m.body ≡ false
+as_forgets : (P : Request → Type 0) → ((ones : List ForgetOne) → P (asks.BatchForget ones)) → (h : InHeader) (body : List ℕ) (m : Message) → message_as h (Some opcodes.BatchForget) body ≡ Ok m → P m.body
 unfolding body_of
-as_forgets h body m e = forgets_alone h (forgets_of body) m (forgets_body body) e
+as_forgets P many h body m e = forgets_alone P h (forgets_of body) m (forgets_body P many body) e
 
 -- the number of an operation in a header, where a message has it
 as_number : (h : InHeader) (k : Opcode) (body : List ℕ) (m : Message) → h.opcode ≡ number k → message_as h (opcode_of h.opcode) body ≡ Ok m → message_as h (Some k) body ≡ Ok m
 as_number h k body m is e = ap (λ o. message_as h o body) (sym (ap opcode_of is ∙ opcode_again k)) ∙ e
 
-not_number : (h : InHeader) (k : Opcode) (body : List ℕ) (m : Message) → message_as h (opcode_of h.opcode) body ≡ Ok m → is_data m.body ≡ true
-    → (message_as h (Some k) body ≡ Ok m → is_data m.body ≡ false) → (h.opcode == number k) ≡ false
-not_number h k body m e carried none = elim (cases_Bool (h.opcode == number k)) [
-  | inl same ↦ absurd (true≢false (sym carried ∙ none (as_number h k body m (eqb-true _ _ same) e)))
+by_number : (P : Request → Type 0) → ((n : ℕ) → P (asks.Forget n)) → ((ones : List ForgetOne) → P (asks.BatchForget ones)) → (h : InHeader) (body : List ℕ) (m : Message)
+    → message_as h (opcode_of h.opcode) body ≡ Ok m → (a b : Bool) → (h.opcode == number opcodes.Forget) ≡ a → (h.opcode == number opcodes.BatchForget) ≡ b → a || b ≡ true → P m.body
+by_number P one many h body m e true b x y either = as_forget P one h body m (as_number h opcodes.Forget body m (eqb-true _ _ x) e)
+by_number P one many h body m e false true x y either = as_forgets P many h body m (as_number h opcodes.BatchForget body m (eqb-true _ _ y) e)
+by_number P one many h body m e false false x y either = absurd (true≢false (sym either))
+
+pub forget_like : (P : Request → Type 0) → ((n : ℕ) → P (asks.Forget n)) → ((ones : List ForgetOne) → P (asks.BatchForget ones)) → (readable : List ℕ) (m : Message)
+    → message_of readable ≡ Ok m → is_forget_number (header_at readable).opcode ≡ true → P m.body
+forget_like P one many readable m e number_of =
+    by_number P one many (header_at readable) (drop 40 readable) m (with_header readable m e) _ _ refl refl number_of
+
+-- no forget is carried out
+not_forget : (readable : List ℕ) (m : Message) → message_of readable ≡ Ok m → is_data m.body ≡ true → is_forget_number (header_at readable).opcode ≡ false
+unfolding is_data
+not_forget readable m e carried = elim (cases_Bool (is_forget_number (header_at readable).opcode)) [
+  | inl forget ↦ absurd (true≢false (sym carried ∙ forget_like (λ q. is_data q ≡ false) (λ n. refl) (λ ones. refl) readable m e forget))
   | inr other ↦ other
 ]
-
-not_forget : (readable : List ℕ) (m : Message) → message_of readable ≡ Ok m → is_data m.body ≡ true → is_forget_number (header_at readable).opcode ≡ false
-not_forget readable m e carried =
-    let h : InHeader = header_at readable in
-    let body : List ℕ = drop 40 readable in
-    let whole = with_header readable m e in
-    or_from _ _ (not_number h opcodes.Forget body m whole carried (as_forget h body m)) (not_number h opcodes.BatchForget body m whole carried (as_forgets h body m))
 
 same_judged : (w : World) (room : ℕ) (d : Result Message BadRequest) (m : Message) → d ≡ Ok m → is_data m.body ≡ true → data_judged w room d ≡ judged w room d
 unfolding data_judged_message

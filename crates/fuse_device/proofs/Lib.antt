@@ -12,3 +12,5 @@ pub mod DataLaws
 pub mod Planning
 pub mod DataFiles
 pub mod Numbering
+pub mod Unlooks
+pub mod Acting

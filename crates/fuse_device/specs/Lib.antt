@@ -7,3 +7,4 @@ pub mod Promises
 pub mod DataSteps
 pub mod OpenFiles
 pub mod Plans
+pub mod Acts

@@ -1,6 +1,6 @@
 use Rattle.std.proofs.Common.{rules}
 use Rattle.std.proofs.lemmas.Fn.{filter_same}
-use Rattle.daemon_core.proofs.daemon.close_in.Goals as goal
+use Rattle.fuse_device.proofs.tables.close_in.Goals as goal
 
 pub returns : goal.returns
 returns c = filter_same _ _ _ (λ x b f' k. search rules) _ _ c.retain.ensures.filtered
