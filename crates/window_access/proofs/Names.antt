@@ -1,13 +1,9 @@
 -- What keeps both boards accessible.
-use Rattle.std.proofs.Common.{◌≡◌, ◌∙◌, ap, sym, refl, ◌<◌, ◌≤◌, ℕ, zero, suc, ◌-◌, true, List, [], ◌∷◌, length, map, get_or, replicate, take, Option, Some, None, unwrap_or, Result, Ok, Err, inl, inr}
-use Rattle.std.proofs.lemmas.Bool.{cases_Bool}
+use Rattle.std.proofs.Common.{◌≡◌, refl, ◌<◌, ◌≤◌, ℕ, ◌-◌, true, List, [], ◌∷◌, length, map, take, Result, Ok, Err}
 use Rattle.std.proofs.lemmas.List.{length-map, get_or-map}
 use Rattle.page_map.specs.Board.{MapView, wiped, painted, is_whole}
-use Rattle.page_map.specs.Window.{is_within, page_of}
 use Rattle.page_map.specs.Plain.{new_map}
-use Rattle.page_map.specs.declared.pages.Page.{Page}
 use Rattle.page_map.specs.declared.pages.Span.{Span}
-use Rattle.page_map.proofs.Showing.{held_at-painted, held_at-painted_other, held_at-wiped, held_at-wiped_other, mapped_at-plain}
 use Rattle.plain_file.specs.Board.{BoardView, applied, no_file}
 use Rattle.plain_file.specs.Plain.{new_board, new_file}
 use Rattle.plain_file.specs.declared.operations.First.{First}
