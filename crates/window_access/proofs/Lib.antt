@@ -1,5 +1,6 @@
 pub mod Finding
 pub mod InPage
+pub mod Below
 pub mod Loading
 pub mod Storing
 pub mod Names

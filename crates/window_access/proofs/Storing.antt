@@ -23,23 +23,10 @@ nothing_applied v = refl
 
 -- ---- what stays
 
--- one place of a list is changed, and what holds at each place still does
-everywhere-set : {A : Type 0} (P : A → Type 0) (xs : List A) (i : ℕ) (x d : A) → P x → ((k : ℕ) → k < length xs → P (get_or xs k d))
-    → (k : ℕ) → k < length (set xs i x) → P (get_or (set xs i x) k d)
-everywhere-set P xs i x d one all k within =
-    let inside : k < length xs = rw (length-set xs i x) at within in
-    elim (cases_eq k i) [
-      | inl same ↦ rw (same, get_or-set_same xs i x d (rw same at inside)) one
-      | inr other ↦ rw (get_or-set_other xs i k x d other) (all k inside)
-    ]
-
 -- after an operation a plain board can still be accessed
 pub can_applied : (v : BoardView) (map : MapView) (file : ℕ) (op : Op) → CanAccess v map → CanAccess (applied v file op) map
 can_applied v map file op can = record {
-  files = record {
-    plain = can.files.plain;
-    ready = everywhere-set (λ (f : FileView). IsTrue f.ready) v.files file (with_own v.plain (entry_of v op) (file_at v file)) no_file can.files.plain can.files.ready;
-  };
+  plain = can.plain;
   names = λ page p at.
       let many : length v.files ≡ length (applied v file op).files = sym (length-set v.files file (with_own v.plain (entry_of v op) (file_at v file))) in
       subst (λ (n : ℕ). (2 ≤ p.node) × (p.node - 2 < n)) many (can.names page p at);

@@ -6,7 +6,8 @@ use Rattle.page_map.specs.Board.{MapView, NamesFiles, mapped_byte}
 use Rattle.page_map.specs.Logs.{is_writable}
 use Rattle.page_map.specs.declared.pages.Mode.TheVariants as modes
 use Rattle.page_map.specs.declared.pages.Page.{Page}
-use Rattle.plain_file.specs.Board.{BoardView, FileView, file_at, bytes_now, size_of, applied, IsReady}
+use Rattle.plain_file.specs.Board.{BoardView, FileView, file_at, bytes_now, size_of, applied}
+use Rattle.plain_file.specs.File.{max_file}
 use Rattle.plain_file.specs.declared.operations.Op.{Op}
 use Rattle.plain_file.specs.declared.operations.Op.TheVariants as ops
 use Rattle.window_access.specs.declared.refusals.Cause.{Cause}
@@ -16,14 +17,9 @@ use Rattle.window_access.specs.declared.refusals.WindowRefusal.TheVariants as re
 
 -- ---- what the window is of
 
--- a plain board, all of whose files are ready
-pub record IsPlainReady (v : BoardView) : Type 0 where
-  pub plain : v.plain ≡ true
-  pub ready : (file : ℕ) → file < length v.files → IsReady v file
-
--- what an access asks of both boards
+-- what an access asks of both boards: that of the files is a plain one, and what is mapped are its files
 pub record CanAccess (v : BoardView) (map : MapView) : Type 0 where
-  pub files : IsPlainReady v
+  pub plain : v.plain ≡ true
   pub names : NamesFiles (length v.files) map
 
 -- the file of a mapped byte
@@ -56,6 +52,10 @@ IsGranted v map cause moffset len = (k : ℕ) → k < len → fails v map cause 
 -- all of the bytes are mapped
 abbrev pub IsMapped : MapView → ℕ → ℕ → Type 0
 IsMapped map moffset len = (k : ℕ) → k < len → mapped_byte map (moffset + k) ≢ None
+
+-- each of the bytes that is mapped lies in the first 67,108,864 of its file
+abbrev pub IsBelow : MapView → ℕ → ℕ → Type 0
+IsBelow map moffset len = (at : ℕ) (p : Page) → moffset ≤ at → at < moffset + len → mapped_byte map at ≡ Some p → p.foffset < max_file
 
 -- the answer for a cause and a byte
 unfoldable pub refusal_at : Cause → ℕ → WindowRefusal

@@ -1,8 +1,9 @@
-ghost use Rattle.std.specs.Prelude.{◌≡◌, ◌<◌, ◌≤◌, ◌+◌, ◌-◌, ◌*◌, ◌%◌, ◌^◌, Some, None, min, length, OnOk, OnErr, IfErr, ℕ, nat_le, nat_lt, if◌then◌else◌};
+ghost use Rattle.std.specs.Prelude.{◌≡◌, ◌<◌, ◌≤◌, ◌+◌, ◌-◌, ◌*◌, ◌%◌, ◌^◌, Some, None, true, min, length, OnOk, OnErr, IfErr, ℕ, nat_le, nat_lt, if◌then◌else◌};
 ghost use Rattle.page_map.specs.Board.{mapped_byte};
 ghost use Rattle.plain_file.specs.Board.{file_at, size_of};
+ghost use Rattle.plain_file.specs.File.{max_file};
 ghost use Rattle.window_access.specs.declared.refusals.Cause.TheVariants as causes;
-ghost use Rattle.window_access.specs.Access.{CanAccess, IsPlainReady, IsGranted, IsMapped, file_of, first_failing, refusal_at, load_refusal, store_refusal, IsRefusal};
+ghost use Rattle.window_access.specs.Access.{CanAccess, IsBelow, IsGranted, IsMapped, file_of, first_failing, refusal_at, load_refusal, store_refusal, IsRefusal};
 
 use crate::refusals::{Cause, WindowRefusal};
 use page_map::{MapBoard, Mode, PAGE_SIZE, Page, PageMap};
@@ -21,10 +22,11 @@ pub(crate) fn in_page(at: u64, len: u64) -> u64
 
 // The size of the file of a mapped byte.
 fn size_of<F: FileBoard>(files: &mut F, p: &Page) -> u64
-    requires ready { IsPlainReady (F.board files.old) }
+    requires plain { (F.board files.old).plain ≡ true }
     requires named { 2 ≤ p.now.node }
     requires within { p.now.node - 2 < length (F.board files.old).files }
     ensures value { result ≡ size_of (file_of (F.board files.old) p.now) }
+    ensures small { result ≤ max_file }
     ensures same { F.board files.new ≡ F.board files.old }
 {
     let _count = files.count();
@@ -36,7 +38,8 @@ fn size_of<F: FileBoard>(files: &mut F, p: &Page) -> u64
 // The first of these bytes of one page that lies at or past the end of its file, which has this size.
 fn first_past(at: u64, len: u64, foffset: u64, size: u64) -> Option<u64>
     requires { at + len < 2 ^ 64 }
-    ensures { result ≡ if nat_le size foffset then Some at else if nat_lt (size - foffset) len then Some (at + (size - foffset)) else None }
+    ensures value { result ≡ if nat_le size foffset then Some at else if nat_lt (size - foffset) len then Some (at + (size - foffset)) else None }
+    ensures none { result ≡ None → foffset + len ≤ size }
 {
     if size <= foffset {
         Some(at)
@@ -61,6 +64,7 @@ fn first_in_page<F: FileBoard>(
     requires page { at % 4096 + len ≤ 4096 }
     requires small { at + len < 2 ^ 64 }
     ensures value { result ≡ first_failing (F.board files.old) map.now cause at len }
+    ensures below { cause ≡ causes.PastEnd → result ≡ None → IsBelow map.now at len }
     ensures same { F.board files.new ≡ F.board files.old }
 {
     match map.find(at) {
@@ -93,6 +97,7 @@ fn first_failing<F: FileBoard>(
     requires can { CanAccess (F.board files.old) map.now }
     requires small { moffset + len < 2 ^ 64 }
     ensures value { result ≡ first_failing (F.board files.old) map.now cause moffset len }
+    ensures below { cause ≡ causes.PastEnd → result ≡ None → IsBelow map.now moffset len }
     ensures same { F.board files.new ≡ F.board files.old }
 {
     let mut at = moffset;
@@ -136,6 +141,7 @@ fn check<F: FileBoard>(
     requires can { CanAccess (F.board files.old) map.now }
     requires small { moffset + len < 2 ^ 64 }
     ensures ok { OnOk result (first_failing (F.board files.old) map.now cause moffset len ≡ None) }
+    ensures below { OnOk result (cause ≡ causes.PastEnd → IsBelow map.now moffset len) }
     ensures cause { IfErr result IsRefusal }
     ensures err { IfErr result (λ e. (at : ℕ) × (first_failing (F.board files.old) map.now cause moffset len ≡ Some at) × (e ≡ refusal_at cause at)) }
     ensures same { F.board files.new ≡ F.board files.old }
@@ -182,6 +188,7 @@ pub(crate) fn check_store<F: FileBoard>(
     requires can { CanAccess (F.board files.old) map.now }
     ensures ok { OnOk result (store_refusal (F.board files.old) map.now moffset len ≡ None) }
     ensures mapped { OnOk result (IsMapped map.now moffset len) }
+    ensures below { OnOk result (IsBelow map.now moffset len) }
     ensures small { OnOk result (moffset + len < 2 ^ 64) }
     ensures err { IfErr result (λ e. store_refusal (F.board files.old) map.now moffset len ≡ Some e) }
     ensures cause { IfErr result IsRefusal }

@@ -1,21 +1,21 @@
-ghost use Rattle.std.specs.Prelude.{◌≡◌, ◌≢◌, ◌<◌, ◌≤◌, ◌+◌, ◌-◌, ◌*◌, ◌/◌, ◌%◌, ◌^◌, None, length, OnOk, OnErr};
+ghost use Rattle.std.specs.Prelude.{◌≡◌, ◌≢◌, ◌<◌, ◌≤◌, ◌+◌, ◌-◌, ◌*◌, ◌/◌, ◌%◌, ◌^◌, None, true, length, OnOk, OnErr};
 ghost use Rattle.plain_file.specs.Limits.{max_transfer};
 ghost use Rattle.plain_file.specs.Board.{applied};
+ghost use Rattle.plain_file.specs.File.{max_file};
 ghost use Rattle.plain_file.specs.declared.operations.Op.TheVariants as ops;
 ghost use Rattle.page_map.specs.Board.{mapped_byte, NamesFiles};
-ghost use Rattle.window_access.specs.Access.{IsPlainReady, CanAccess, IsMapped, IsPartlyStored, Stores, piece_at, piece_bytes, piece_start, stored, touched};
+ghost use Rattle.window_access.specs.Access.{CanAccess, IsBelow, IsMapped, IsPartlyStored, Stores, piece_at, piece_bytes, piece_start, stored, touched};
 
 use crate::checks::{check_store, in_page};
 use crate::refusals::WindowRefusal;
 use page_map::{PAGE_SIZE, Page, PageMap};
-use plain_file::{Blob, FileBoard, MAX_FILE, Memory, Op};
+use plain_file::{Blob, FileBoard, Memory, Op};
 use std::alloc::Global;
 
 /// Stores bytes in the window from the offset `moffset` on: in each page that they touch, in order, by
 /// one write to its file.
 ///
-/// The board is a plain one, whose files are all ready and include the file of each mapped page; there
-/// are at most 1,048,576 bytes. No bytes are stored at every offset.
+/// The board is a plain one, and has the file of each mapped page; there are at most 1,048,576 bytes. No bytes are stored at every offset.
 ///
 /// `Unmapped` comes exactly where one of the bytes isn't mapped or is past the window; otherwise
 /// `ReadOnly` exactly where the mapping of one doesn't allow writing; otherwise `PastEnd` exactly where
@@ -29,7 +29,7 @@ pub fn store_window<F: FileBoard>(
     moffset: u64,
     bytes: &[u8],
 ) -> Result<(), WindowRefusal>
-    requires ready { IsPlainReady (F.board files.old) }
+    requires plain { (F.board files.old).plain ≡ true }
     requires names { NamesFiles (length (F.board files.old).files) map.now }
     requires small { length bytes.now ≤ max_transfer }
     ensures { Stores (F.board files.old) map.now moffset bytes.now result (F.board files.new) }
@@ -63,23 +63,21 @@ fn write<F: FileBoard>(
     requires can { CanAccess (F.board files.old) map.now }
     requires named { 2 ≤ p.now.node }
     requires within { p.now.node - 2 < length (F.board files.old).files }
-    requires few { length bytes.now ≤ 4096 }
+    requires ends { p.now.foffset + length bytes.now ≤ max_file }
     ensures ok { OnOk result (F.board files.new ≡ applied (F.board files.old) (p.now.node - 2) (ops.Write p.now.foffset bytes.now)) }
     ensures can { CanAccess (F.board files.new) map.now }
     ensures err { OnErr result (F.board files.new ≡ F.board files.old) }
 {
     let _map = map;
     let _count = files.count();
-    // No file is longer.
-    if p.foffset > MAX_FILE - bytes.len() as u64 {
-        return Err(Memory);
-    }
+    let file = (p.node - 2) as u32;
+    files.sound(file);
     let op = Op::Write {
         off: p.foffset,
         bytes: Blob::copy_of(alloc, bytes)?,
     };
     // A plain board refuses for want of memory alone.
-    match files.apply(alloc, (p.node - 2) as u32, op) {
+    match files.apply(alloc, file, op) {
         Ok(_) => Ok(()),
         Err(_) => Err(Memory),
     }
@@ -95,7 +93,9 @@ fn store_piece<F: FileBoard>(
 ) -> Result<(), Memory>
     requires can { CanAccess (F.board files.old) map.now }
     requires mapped { mapped_byte map.now at ≢ None }
-    requires few { length bytes.now ≤ 4096 }
+    requires some { 0 < length bytes.now }
+    requires page { at % 4096 + length bytes.now ≤ 4096 }
+    requires below { IsBelow map.now at (length bytes.now) }
     ensures ok { OnOk result (F.board files.new ≡ applied (F.board files.old) (piece_at map.now at bytes.now).file (piece_at map.now at bytes.now).op) }
     ensures can { CanAccess (F.board files.new) map.now }
     ensures err { OnErr result (F.board files.new ≡ F.board files.old) }
@@ -117,6 +117,7 @@ fn store_in_page<F: FileBoard>(
 ) -> Result<(), Memory>
     requires can { CanAccess (F.board files.old) map.now }
     requires mapped { IsMapped map.now moffset (length bytes.now) }
+    requires below { IsBelow map.now moffset (length bytes.now) }
     requires small { moffset + length bytes.now < 2 ^ 64 }
     requires from { moffset / 4096 ≤ page }
     requires to { 4096 * page < moffset + length bytes.now }
@@ -143,6 +144,7 @@ fn store<F: FileBoard>(
 ) -> Result<(), Memory>
     requires can { CanAccess (F.board files.old) map.now }
     requires mapped { IsMapped map.now moffset (length bytes.now) }
+    requires below { IsBelow map.now moffset (length bytes.now) }
     requires small { moffset + length bytes.now < 2 ^ 64 }
     ensures ok { OnOk result (F.board files.new ≡ stored (F.board files.old) map.now moffset bytes.now) }
     ensures err { OnErr result (IsPartlyStored (F.board files.old) map.now moffset bytes.now (F.board files.new)) }

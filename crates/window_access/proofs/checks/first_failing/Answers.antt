@@ -1,5 +1,6 @@
 use Rattle.std.proofs.Common.{◌∙◌, ◌≡◌, sym, ap, arith, Some, None}
 use Rattle.plain_file.specs.Board.{BoardView}
+use Rattle.window_access.proofs.Below.{below_more}
 use Rattle.window_access.proofs.Finding.{find_later, find_sooner}
 use Rattle.window_access.specs.Access.{fails, first_failing}
 use Rattle.window_access.proofs.checks.first_failing.Goals as goal
@@ -21,5 +22,6 @@ loop-left-preserved g c =
     record {
       same = c.first_in_page.ensures.same ∙ same;
       place = omega (arith, c.in_page-n.ensures.within, c.loop-left.invariant.place);
+      below = λ past. below_more c.args.map.now c.args.moffset c.loop-left.at c.in_page-n.result (c.loop-left.invariant.below past) (c.first_in_page.ensures.below past c.in_default.is);
       rest = c.loop-left.invariant.rest ∙ find_later (fails v c.args.map.now c.args.cause) c.loop-left.at c.in_page-n.result c.loop-left.left c.in_page-n.ensures.within here;
     }

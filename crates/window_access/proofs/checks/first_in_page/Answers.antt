@@ -1,4 +1,5 @@
-use Rattle.std.proofs.Common.{◌∙◌, sym, refl, length}
+use Rattle.std.proofs.Common.{◌∙◌, sym, refl, length, arith}
+use Rattle.window_access.proofs.Below.{below_unmapped, below_mapped}
 use Rattle.window_access.proofs.InPage.{unmapped_other, mapped_page, read_only_page, writable_page, past_page, named_byte}
 use Rattle.window_access.proofs.checks.first_in_page.Goals as goal
 
@@ -13,6 +14,7 @@ size_of-size-requires-clause-within g c =
 pub returns-in-ReadOnly : goal.returns-in-ReadOnly
 returns-in-ReadOnly g c = record {
   value = sym (unmapped_other (g.F.FileBoard.board c.args.files.now) c.args.map.now c.args.cause c.args.at c.args.len (sym c.find.ensures.byte ∙ c.in-None.is) c.requires.page c.in-ReadOnly.is);
+  below = λ past none. below_unmapped c.args.map.now c.args.at c.args.len (sym c.find.ensures.byte ∙ c.in-None.is) c.requires.page;
   same = refl;
 }
 
@@ -30,4 +32,8 @@ returns-in-W-clause-value g c =
 
 pub returns-in-PastEnd-clause-value : goal.returns-in-PastEnd-clause-value
 returns-in-PastEnd-clause-value g c =
-    rw (c.in-PastEnd.is, past_page (g.F.FileBoard.board c.args.files.now) c.args.map.now c.args.at c.args.len c.in-Some.p (sym c.find.ensures.byte ∙ c.in-Some.is) c.requires.page c.requires.some, ← c.size_of-size.ensures.value) c.first_past.ensures
+    rw (c.in-PastEnd.is, past_page (g.F.FileBoard.board c.args.files.now) c.args.map.now c.args.at c.args.len c.in-Some.p (sym c.find.ensures.byte ∙ c.in-Some.is) c.requires.page c.requires.some, ← c.size_of-size.ensures.value) c.first_past.ensures.value
+
+pub returns-in-PastEnd-clause-below : goal.returns-in-PastEnd-clause-below
+returns-in-PastEnd-clause-below g c = λ past none.
+    below_mapped c.args.map.now c.args.at c.args.len c.in-Some.p (sym c.find.ensures.byte ∙ c.in-Some.is) c.requires.page (omega (arith, c.first_past.ensures.none none, c.size_of-size.ensures.small))
