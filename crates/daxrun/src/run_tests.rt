@@ -2,6 +2,7 @@ use crate::runs::run;
 use dax_script::{MemSink, MemSource, Status, SureSink, SureSource, Word};
 use plain_file::{Blob, List, Memory};
 use std::alloc::{AllocError, Global};
+use std::sync::Wait;
 use std::test::Fail;
 
 // One guest that writes a file and reads it.
@@ -39,7 +40,8 @@ fn words_of(alloc: Global, words: &[&[u8]]) -> Result<List<Word>, Memory> {
 }
 
 // The status of a run with these words over bytes in memory, and what was taken.
-fn ran(
+fn ran<R: Wait>(
+    rt: &R,
     alloc: Global,
     words: &[&[u8]],
     input: Blob,
@@ -49,13 +51,14 @@ fn ran(
     let words = words_of(alloc, words)?;
     let mut source = MemSource::new(input, from.piece, calls(alloc, from.fails)?);
     let mut sink = MemSink::new(alloc, to.piece, calls(alloc, to.fails)?);
-    let status = run(alloc, words.as_slice(), &mut source, &mut sink);
+    let status = run(rt, alloc, words.as_slice(), &mut source, &mut sink);
     Ok((status, sink.bytes().clone()?))
 }
 
 /// The status of `script` over a text, and what was written.
-pub fn answer_to(alloc: Global, text: &[u8]) -> Result<(Status, Blob), Fail> {
+pub fn answer_to<R: Wait>(rt: &R, alloc: Global, text: &[u8]) -> Result<(Status, Blob), Fail> {
     ran(
+        rt,
         alloc,
         &[b"script".as_slice()],
         Blob::copy_of(alloc, text)?,
@@ -92,7 +95,7 @@ fn writes_transcripts(rt: HostRuntime) -> Result<(), Fail> {
             "transcript 1\nranges 0\nfile big 67108864 00\nentry 0 0 req\nentry 0 1 req\nentry 0 2 req\nguest 0\n0 done 0 bytes 00000000\n1 done 1 wrote 1\n2 done 2 bytes 0001\nend\n",
         ),
     ] {
-        let (status, taken) = answer_to(rt.alloc(), script.as_bytes())?;
+        let (status, taken) = answer_to(&rt, rt.alloc(), script.as_bytes())?;
         assert_eq!(rt; status, Status::Ok, "{script}");
         assert_eq!(rt; taken.as_slice(), transcript.as_bytes(), "{script}");
     }
@@ -137,7 +140,7 @@ fn writes_what_a_formula_says(rt: HostRuntime) -> Result<(), Fail> {
     told.push_str("guest 0\n")?;
     pattern_lines(&mut told, 1000)?;
     told.push_str("end\n")?;
-    let (status, taken) = answer_to(alloc, script.as_bytes())?;
+    let (status, taken) = answer_to(&rt, alloc, script.as_bytes())?;
     assert_eq!(rt; status, Status::Ok);
     assert!(rt; taken.as_slice() == told.as_bytes());
     Ok(())
@@ -156,7 +159,7 @@ fn reads_and_writes_in_any_pieces(rt: HostRuntime) -> Result<(), Fail> {
             piece: to,
             fails: 0,
         };
-        let (status, taken) = ran(alloc, &[b"script".as_slice()], input, from, to)?;
+        let (status, taken) = ran(&rt, alloc, &[b"script".as_slice()], input, from, to)?;
         assert_eq!(rt; status, Status::Ok);
         assert_eq!(rt; taken.as_slice(), HELLO_TOLD.as_bytes());
     }
@@ -176,7 +179,7 @@ fn refuses_words(rt: HostRuntime) -> Result<(), Fail> {
         [b"\xff\xfe".as_slice()].as_slice(),
     ] {
         let input = Blob::copy_of(alloc, HELLO.as_bytes())?;
-        let (status, taken) = ran(alloc, words, input, SURE, SURE)?;
+        let (status, taken) = ran(&rt, alloc, words, input, SURE, SURE)?;
         assert_eq!(rt; status, Status::Usage, "{words:?}");
         assert_eq!(rt; taken.as_slice(), USAGE.as_bytes());
     }
@@ -191,7 +194,7 @@ fn reads_to_its_limit(rt: HostRuntime) -> Result<(), Fail> {
         (16_777_217, Status::TooLong, "too long\n"),
     ] {
         let input = Blob::from_vec(vec![in alloc; b' '; spaces]?);
-        let (got, taken) = ran(alloc, &[b"script".as_slice()], input, SURE, SURE)?;
+        let (got, taken) = ran(&rt, alloc, &[b"script".as_slice()], input, SURE, SURE)?;
         assert_eq!(rt; got, status);
         assert_eq!(rt; taken.as_slice(), text.as_bytes());
     }
@@ -215,7 +218,7 @@ fn a_source_fails_at_each_call(rt: HostRuntime) -> Result<(), Fail> {
             piece: 16,
             fails: call,
         };
-        let (got, taken) = ran(alloc, &[b"script".as_slice()], input, from, SURE)?;
+        let (got, taken) = ran(&rt, alloc, &[b"script".as_slice()], input, from, SURE)?;
         assert_eq!(rt; (got, taken.len()), (status, len), "call {call}");
     }
     Ok(())
@@ -244,7 +247,7 @@ fn a_sink_fails(rt: HostRuntime) -> Result<(), Fail> {
         (b"none".as_slice(), "", Ends { piece: 5, fails: 2 }, "usage"),
     ] {
         let input = Blob::copy_of(alloc, text.as_bytes())?;
-        let (status, got) = ran(alloc, &[words], input, SURE, to)?;
+        let (status, got) = ran(&rt, alloc, &[words], input, SURE, to)?;
         assert_eq!(rt; status, Status::WriteFault);
         assert_eq!(rt; got.as_slice(), taken.as_bytes());
     }
@@ -256,7 +259,13 @@ fn nothing_fails_over_sure_ends(rt: HostRuntime) -> Result<(), Fail> {
     let alloc = rt.alloc();
     let words = words_of(alloc, &[b"script".as_slice()])?;
     let mut source = SureSource::new(Blob::copy_of(alloc, HELLO.as_bytes())?);
-    let status = run(alloc, words.as_slice(), &mut source, &mut SureSink::new());
+    let status = run(
+        &rt,
+        alloc,
+        words.as_slice(),
+        &mut source,
+        &mut SureSink::new(),
+    );
     assert_eq!(rt; status, Status::Ok);
     Ok(())
 }
