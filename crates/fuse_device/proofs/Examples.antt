@@ -1,5 +1,5 @@
 -- Small examples whose answers are known: whole chains with their bytes, and runs of requests.
-use Rattle.std.proofs.Common.{◌≡◌, refl, ℕ, ◌-◌, List, [], ◌∷◌, ◌++◌, length, map, replicate, true, false, Option, Some, None}
+use Rattle.std.proofs.Common.{◌≡◌, refl, ℕ, ◌-◌, List, [], ◌∷◌, ◌++◌, length, map, replicate, false, Option, Some, None}
 use Rattle.std.specs.Prelude.{Ok, Err, slice_index, codes, option_map}
 use Rattle.plain_file.specs.Plain.{plain_board, first_mark, no_hands, new_file}
 use Rattle.plain_file.specs.Board.{BoardView, FileView, file_at, is_file, file_may_apply, file_answer, bytes_now}
