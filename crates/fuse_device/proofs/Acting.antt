@@ -1,5 +1,5 @@
 -- A chain adds to the acts that the window shows what its request does, whatever is asked.
-use Rattle.std.proofs.Common.{◌-◌, Option, Some, None, ◌≡◌, ◌∙◌, ap, sym, subst, refl, ℕ, ◌*◌, ◌^◌, ◌==◌, Bool, true, false, true≢false, not, ◌&&◌, ◌||◌, nat_lt, List, [], ◌∷◌, ◌++◌, length, map, Result, Ok, Err, if◌then◌else◌}
+use Rattle.std.proofs.Common.{◌-◌, Option, Some, None, ◌≡◌, ◌∙◌, sym, refl, ℕ, ◌*◌, ◌^◌, ◌==◌, Bool, true, false, true≢false, not, ◌&&◌, ◌||◌, nat_lt, List, [], ◌∷◌, ◌++◌, length, map, Result, Ok, Err, if◌then◌else◌}
 use Rattle.std.proofs.lemmas.List.{append-nil, append_assoc}
 use Rattle.std.specs.List.{list_all}
 use Rattle.fuse_codec.specs.Reading.{message_of}
@@ -18,7 +18,7 @@ use Rattle.plain_file.specs.declared.operations.Op.{Op}
 use Rattle.page_map.specs.Board.{MapView, Shows, painted, wiped, is_whole}
 use Rattle.page_map.specs.Window.{Act, set, clear}
 use Rattle.page_map.proofs.Showing.{AddsAct-painted, AddsAct-wiped}
-use Rattle.fuse_device.specs.State.{State, World, grants, cleared_window, all_cleared}
+use Rattle.fuse_device.specs.State.{State, World, grants, all_cleared}
 use Rattle.fuse_device.specs.Checks.{Outcome, is_known, is_handle, is_past, refuse}
 use Rattle.fuse_device.specs.Requests.{done, applies, attr_of, opens, closes, found, unlinked, opens_entry, makes_entry, created, resizes, span_of, is_bad_setup, init, destroy, getattr, setattr, open_file, open_dir, release, release_dir, sync, fallocate, read, write, lookup, unlink, create, forget, batch_forget, read_dir, setup, remove, answered, is_init, is_forget, served}
 use Rattle.fuse_device.specs.Steps.{Step, wanted_room, judged_message, judged, forgot, replied, header_at, is_forget_number, device_step}

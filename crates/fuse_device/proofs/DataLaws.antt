@@ -1,6 +1,6 @@
 -- The device that stays as it is: what it carries out is what the whole device does, and what it asks of its boards.
 use Rattle.std.proofs.Common.{◌≡◌, ◌≢◌, ◌⊎◌, ◌∙◌, ap, subst, sym, refl, arith, ℕ, ◌-◌, ◌<◌, ◌==◌, cond, Bool, true, false, true≢false, not, ◌&&◌, ◌||◌, ◌*◌, nat_lt, nat_le, List, [], length, drop, take, ◌≤◌, Option, Some, None, option_map, Result, Ok, Err, OnOk, OnErr, inl, inr, if◌then◌else◌}
-use Rattle.std.proofs.lemmas.Bool.{cases_Bool, eqb-true, eq-eqb, ne_eqb, lt-ltb, le-ltb, or_from, not_from_true, not_from_false}
+use Rattle.std.proofs.lemmas.Bool.{cases_Bool, eqb-true, eq-eqb, ne_eqb, lt-ltb, le-ltb, not_from_true, not_from_false}
 use Rattle.std.specs.Prelude.{is_some}
 use Rattle.std.proofs.lemmas.Grind.{common_steps}
 use Rattle.plain_file.specs.Limits.{max_transfer}

@@ -1,11 +1,11 @@
 -- Small examples whose answers are known: whole chains with their bytes, and runs of requests.
-use Rattle.std.proofs.Common.{◌≡◌, refl, ℕ, ◌-◌, List, [], ◌∷◌, ◌++◌, length, map, replicate, true, false, Option, Some, None}
+use Rattle.std.proofs.Common.{◌≡◌, refl, ℕ, ◌-◌, List, [], ◌∷◌, ◌++◌, length, map, replicate, false, Option, Some, None}
 use Rattle.std.specs.Prelude.{Ok, Err, slice_index, codes, option_map}
 use Rattle.plain_file.specs.Plain.{plain_board, first_mark, no_hands, new_file}
-use Rattle.plain_file.specs.Board.{BoardView, FileView, file_at, file_may_apply, file_answer, bytes_now}
+use Rattle.plain_file.specs.Board.{BoardView, FileView, file_at, is_file, file_may_apply, file_answer, bytes_now}
 use Rattle.plain_file.specs.File.{answer, after}
 use Rattle.plain_file.specs.History.{bytes, after_all}
-use Rattle.page_map.specs.Board.{mapped_byte, is_whole, may_set, may_clear}
+use Rattle.page_map.specs.Board.{mapped_byte, is_whole, is_moved, placed_in, may_set, may_clear}
 use Rattle.page_map.specs.Plain.{new_map}
 use Rattle.page_map.specs.declared.pages.Page.{Page}
 use Rattle.fuse_wire.specs.Errno.{errno_number}
@@ -15,7 +15,7 @@ use Rattle.fuse_wire.specs.Opens.{open_in_of, open_out, create_in_of, release_in
 use Rattle.fuse_wire.specs.Inits.{init_in_of, init_out}
 use Rattle.fuse_wire.specs.Forgets.{forget_in_of}
 use Rattle.fuse_wire.specs.Mappings.{setup_in_of}
-use Rattle.fuse_wire.specs.declared.errno.Errno.TheVariants.{ENOENT}
+use Rattle.fuse_wire.specs.declared.errno.Errno.TheVariants.{ENOENT, EBUSY, EINVAL, EFBIG}
 use Rattle.fuse_codec.specs.Dirents.{dirent_head, dirent_parts, entry_len, fitting}
 use Rattle.fuse_codec.specs.Grammar.{kind_of, asked, form_room}
 use Rattle.fuse_codec.specs.Opcodes.{number, opcode_of, reply_form}
@@ -47,7 +47,7 @@ world_of pages names files = record { state = begun (new_state pages names); fil
 
 -- a step and an answer, with all that they are made of
 steps : World → List ℕ → ℕ → Step
-unfolding device_step errno_of reply_to judged_message served answered is_init is_forget init destroy getattr setattr open_file open_dir release release_dir sync fallocate read write lookup unlink create forget batch_forget read_dir setup remove bytes_reply size_in dir_attr file_attr entries is_known is_handle may_open is_made named message_of message_after body_of remove_of remove_with records_at opcode_of number reply_form kind_of asked form_room reply_parts error_of dirent_head dirent_parts entry_len fitting errno_number out_header attr_rec attr_out entry_out open_out init_out write_out init_in_of forget_in_of getattr_in_of setattr_in_of setup_in_of read_in_of write_in_of open_in_of create_in_of release_in_of is_whole may_set may_clear file_may_apply file_answer bytes_now bytes after_all answer after
+unfolding device_step errno_of reply_to judged_message served answered is_init is_forget init destroy getattr setattr open_file open_dir release release_dir sync fallocate read write lookup unlink create forget batch_forget read_dir setup remove bytes_reply size_in dir_attr file_attr entries is_known is_handle may_open is_made named message_of message_after body_of remove_of remove_with records_at opcode_of number reply_form kind_of asked form_room reply_parts error_of dirent_head dirent_parts entry_len fitting errno_number out_header attr_rec attr_out entry_out open_out init_out write_out init_in_of forget_in_of getattr_in_of setattr_in_of setup_in_of read_in_of write_in_of open_in_of create_in_of release_in_of is_whole may_set may_clear is_moved placed_in is_file file_may_apply file_answer bytes_now bytes after_all answer after
 steps = device_step
 
 answers : World → Message → Outcome
@@ -187,3 +187,29 @@ lists offset size = ask 1 (asks.ReadDir (record { fh = 3; offset = offset; size 
 first_name : (answers (run empty_directory two_names) (lists 0 63)).0 ≡ Ok (gives.Bytes (3 ∷ replicate 7 0 ++ 1 ∷ replicate 7 0 ++ 2 ∷ 0 ∷ 0 ∷ 0 ∷ 8 ∷ 0 ∷ 0 ∷ 0 ∷ 0x61 ∷ 0x63 ∷ replicate 6 0))
 unfolding run answers
 first_name = refl
+
+-- ---- boards that have nothing in hand
+
+-- a device over shared boards of which the turns alone are had: no bar, no tree, and no range that is moved
+abbrev with_nothing_in_hand : World → World
+with_nothing_in_hand w = record w { files = record w.files { plain = false }; map = record w.map { plain = false } }
+
+abbrev without_hands : World
+without_hands = with_nothing_in_hand (world_of 1024 (codes "a" ∷ []) (file_of 1 0 ∷ []))
+
+-- a new size
+abbrev resizes_to : ℕ → Message
+resizes_to size = ask 2 (asks.Setattr (record { valid = 8; fh = 0; size = size; lock_owner = 0; atime = 0; mtime = 0; ctime = 0; atimensec = 0; mtimensec = 0; ctimensec = 0; mode = 0; uid = 0; gid = 0 }))
+
+-- the start of a file is mapped, as these flags say
+abbrev maps_as : ℕ → Message
+maps_as flags = ask 2 (asks.Setup (record { fh = 18446744073709551615; foffset = 0; len = 4096; flags = flags; moffset = 0 }))
+
+-- an interval of this length is unmapped
+abbrev unmaps : ℕ → Message
+unmaps len = ask 0 (asks.Remove (record { moffset = 0; len = len } ∷ []))
+
+-- what such boards don't allow is EBUSY, after all other checks
+allowed_last : ((answers without_hands (resizes_to 67108865)).0 ≡ Err EFBIG) × ((answers without_hands (resizes_to 0)).0 ≡ Err EBUSY) × ((answers without_hands (maps_as 4)).0 ≡ Err EINVAL) × ((answers without_hands (maps_as 3)).0 ≡ Err EBUSY) × ((answers without_hands (unmaps 1)).0 ≡ Err EINVAL) × ((answers without_hands (unmaps 4096)).0 ≡ Err EBUSY)
+unfolding answers
+allowed_last = (refl, refl, refl, refl, refl, refl)

@@ -1,6 +1,5 @@
 -- Whatever is asked, the window maps files that were made, and no others.
-use Rattle.std.proofs.Common.{◌≡◌, ◌∙◌, ap, sym, refl, arith, ◌<◌, ◌≤◌, ℕ, zero, suc, ◌+◌, ◌-◌, ◌*◌, ◌==◌, Bool, true, false, List, [], ◌∷◌, length, length-set, get_or, replicate, Option, Some, None, unwrap_or, Result, Ok, Err, inl, inr, not, nat_lt, ◌||◌, ◌&&◌, ◌^◌, if◌then◌else◌}
-use Rattle.std.proofs.lemmas.Bool.{cases_Bool}
+use Rattle.std.proofs.Common.{◌≡◌, ◌∙◌, refl, arith, ◌<◌, ◌≤◌, ℕ, ◌+◌, ◌-◌, ◌*◌, ◌==◌, Bool, true, false, List, [], ◌∷◌, length, length-set, Option, Some, None, Result, Ok, Err, not, nat_lt, ◌||◌, ◌&&◌, ◌^◌, if◌then◌else◌}
 use Rattle.std.proofs.lemmas.Grind.{common_steps}
 use Rattle.std.proofs.lemmas.List.{length-map, length-append}
 use Rattle.std.specs.List.{list_all}
@@ -20,11 +19,6 @@ use Rattle.plain_file.specs.Board.{file_at, file_answer, may_apply, applied}
 use Rattle.plain_file.specs.declared.operations.Answer.{Answer}
 use Rattle.plain_file.specs.declared.operations.Op.{Op}
 use Rattle.page_map.specs.Board.{MapView, wiped, painted, is_whole, NamesFiles}
-use Rattle.page_map.specs.Window.{is_within, page_of}
-use Rattle.page_map.specs.Plain.{new_map}
-use Rattle.page_map.specs.declared.pages.Page.{Page}
-use Rattle.page_map.specs.declared.pages.Span.{Span}
-use Rattle.page_map.proofs.Showing.{held_at-painted, held_at-painted_other, held_at-wiped, held_at-wiped_other, mapped_at-plain}
 use Rattle.fuse_device.specs.State.{State, World, is_made, grants, made_at, counted_up, without_name, unlooked, begun, with_new_file, new_file, cleared_window, all_cleared}
 use Rattle.fuse_device.specs.Entries.{session_flags, init_out_with}
 use Rattle.fuse_device.specs.Checks.{Outcome, is_known, is_handle, is_past, refuse}

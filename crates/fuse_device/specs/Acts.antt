@@ -1,5 +1,5 @@
 -- What a request does to the window, as acts.
-use Rattle.std.specs.Prelude.{ℕ, ◌*◌, ◌==◌, Bool, nat_lt, List, [], ◌∷◌, length, map, Result, Ok, Err, if◌then◌else◌}
+use Rattle.std.specs.Prelude.{ℕ, ◌*◌, ◌==◌, nat_lt, List, [], ◌∷◌, length, map, Result, Ok, Err, if◌then◌else◌}
 use Rattle.fuse_codec.specs.Reading.{message_of}
 use Rattle.fuse_codec.specs.declared.errors.BadRequest.{BadRequest}
 use Rattle.fuse_codec.specs.declared.messages.Message.{Message}

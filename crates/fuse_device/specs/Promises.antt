@@ -1,13 +1,12 @@
 -- The forms of the device's contracts, and what they ask of the boards.
-use Rattle.std.specs.Prelude.{◌≡◌, ℕ, ◌-◌, ◌*◌, ◌<◌, ◌≤◌, true, List, length, Some, Result, Ok, Err}
+use Rattle.std.specs.Prelude.{◌≡◌, ℕ, ◌*◌, ◌<◌, ◌≤◌, true, List, length, Result, Ok, Err}
 use Rattle.fuse_codec.specs.Replies.{is_reply, reply_len}
 use Rattle.fuse_codec.specs.Reading.{message_of}
 use Rattle.fuse_codec.specs.declared.messages.Message.{Message}
 use Rattle.fuse_codec.specs.declared.messages.Request.{Request}
 use Rattle.fuse_codec.specs.declared.messages.Request.TheVariants as asks
 use Rattle.fuse_codec.specs.declared.replies.Reply.{Reply}
-use Rattle.page_map.specs.Board.{MapView, mapped_at, may_clear}
-use Rattle.page_map.specs.declared.pages.Page.{Page}
+use Rattle.page_map.specs.Board.{MapView, may_clear}
 use Rattle.plain_file.specs.Board.{BoardView, IsReady}
 use Rattle.plain_file.specs.declared.refusals.Memory.{Memory}
 use Rattle.fuse_device.specs.declared.refusals.Refused.{Refused}
