@@ -79,7 +79,9 @@ fn make<R: Wait>(
         Call::Init => client.init(rt, alloc, true, files, map).map(Reply::Init),
         Call::Lookup(name) => client.lookup(rt, alloc, name, files, map).map(Reply::Entry),
         Call::OpenFile => client.open_file(rt, alloc, 2, files, map).map(opened),
-        Call::Write => client.write(rt, alloc, A, 3, b"hello", files, map).map(wrote),
+        Call::Write => client
+            .write(rt, alloc, A, 3, b"hello", files, map)
+            .map(wrote),
         Call::Read => client
             .read(rt, alloc, A, 0, 1_048_576, files, map)
             .map(Reply::Bytes),
@@ -90,7 +92,9 @@ fn make<R: Wait>(
             .setattr_size(rt, alloc, A, 4, files, map)
             .map(Reply::Attr),
         Call::Getattr => client.getattr(rt, alloc, A, files, map).map(Reply::Attr),
-        Call::Setup => client.setup(rt, alloc, 2, 1, 2, Mode::W, files, map).map(done),
+        Call::Setup => client
+            .setup(rt, alloc, 2, 1, 2, Mode::W, files, map)
+            .map(done),
         Call::Remove => client.remove(rt, alloc, 2, 2, files, map).map(done),
         Call::Release => client.release(rt, alloc, A, files, map).map(done),
         Call::Destroy => client.destroy(rt, alloc, files, map).map(done),

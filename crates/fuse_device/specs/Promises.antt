@@ -6,6 +6,7 @@ use Rattle.fuse_codec.specs.declared.messages.Message.{Message}
 use Rattle.fuse_codec.specs.declared.messages.Request.{Request}
 use Rattle.fuse_codec.specs.declared.messages.Request.TheVariants as asks
 use Rattle.fuse_codec.specs.declared.replies.Reply.{Reply}
+use Rattle.page_map.specs.Window.{page_size}
 use Rattle.page_map.specs.Board.{MapView, may_clear}
 use Rattle.plain_file.specs.Board.{BoardView, IsReady}
 use Rattle.plain_file.specs.declared.refusals.Memory.{Memory}
@@ -41,7 +42,7 @@ HasNext s v = length s.made < 16 → (length s.made < length v.files) × IsReady
 
 -- The board lets the whole window be cleared, where it has pages.
 abbrev pub MayClearAll : State → MapView → Type 0
-MayClearAll s v = 0 < s.pages → may_clear v 0 (4096 * s.pages) ≡ true
+MayClearAll s v = 0 < s.pages → may_clear v 0 (page_size * s.pages) ≡ true
 
 -- What one request asks of the boards besides.
 unfoldable pub Needs : State → BoardView → MapView → Request → Type 0

@@ -18,6 +18,7 @@ use Rattle.fuse_wire.specs.declared.mappings.SetupIn.{SetupIn}
 use Rattle.fuse_wire.specs.declared.opens.CreateIn.{CreateIn}
 use Rattle.fuse_wire.specs.declared.records.ReadIn.{ReadIn}
 use Rattle.fuse_wire.specs.declared.records.WriteIn.{WriteIn}
+use Rattle.page_map.specs.Window.{page_size}
 use Rattle.page_map.specs.Board.{painted, is_whole}
 use Rattle.page_map.specs.declared.pages.Mode.TheVariants as modes
 use Rattle.page_map.specs.declared.pages.Span.{Span}
@@ -228,7 +229,7 @@ span_of node r = record { node = node; foffset = r.foffset; moffset = r.moffset;
 
 -- neither reading nor writing is asked for, or more than both, or a part isn't whole pages of file and window
 abbrev pub is_bad_setup : ℕ → SetupIn → Bool
-is_bad_setup pages r = r.flags == 0 || nat_lt 3 r.flags || not (r.foffset % 4096 == 0) || not (is_whole pages r.moffset r.len)
+is_bad_setup pages r = r.flags == 0 || nat_lt 3 r.flags || not (r.foffset % page_size == 0) || not (is_whole pages r.moffset r.len)
 
 -- SETUPMAPPING: the last number of all stands for no handle
 unfoldable pub setup : World → ℕ → SetupIn → Outcome

@@ -3,6 +3,7 @@ use Rattle.std.specs.Prelude.{ℕ, ◌+◌, ◌-◌, ◌*◌, ◌^◌, ◌==◌,
 use Rattle.std.specs.List.{list_any}
 use Rattle.std.specs.Str.{bytes_eq}
 use Rattle.fuse_wire.specs.declared.mappings.RemoveOne.{RemoveOne}
+use Rattle.page_map.specs.Window.{page_size}
 use Rattle.page_map.specs.Board.{MapView, wiped}
 use Rattle.page_map.specs.Board as window
 use Rattle.page_map.specs.declared.pages.Span.{Span}
@@ -151,7 +152,7 @@ ended s = record s { started = false; opened = []; made = map unlooked s.made }
 
 -- the whole window cleared, where it has pages
 abbrev pub cleared_window : ℕ → MapView → MapView
-cleared_window pages v = if pages == 0 then v else wiped v 0 (4096 * pages)
+cleared_window pages v = if pages == 0 then v else wiped v 0 (page_size * pages)
 
 -- intervals cleared one after another
 abbrev pub all_cleared : MapView → List RemoveOne → MapView

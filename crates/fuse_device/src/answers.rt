@@ -4,7 +4,7 @@ ghost use Rattle.fuse_device.specs.Requests.{size_in, bytes_reply};
 
 use fuse_codec::Reply;
 use fuse_wire::{AttrOut, AttrRec, FUSE_MAP_ALIGNMENT, InitIn, InitOut};
-use plain_file::{Answer, List};
+use plain_file::{Answer, List, MAX_TRANSFER};
 use std::alloc::Global;
 
 /// The flags that a session has: direct access (bit 26) where it is asked for and the window has pages.
@@ -29,7 +29,7 @@ pub fn init_out(flags: u32, r: &InitIn) -> InitOut
         flags,
         max_background: 16,
         congestion_threshold: 12,
-        max_write: 1_048_576,
+        max_write: MAX_TRANSFER,
         time_gran: 1,
         max_pages: 0,
         map_alignment: if flags == 0 { 0 } else { 12 },

@@ -3,7 +3,7 @@ ghost use Rattle.plain_file.specs.Limits.{max_part};
 ghost use Rattle.fuse_device.specs.Steps.{errno_of, is_forget_number, header_at};
 ghost use Rattle.fuse_device.specs.Plans.{plan, is_forget_chain, IsBoundedPlan};
 
-use fuse_codec::{BadRequest, Message, decode_request};
+use fuse_codec::{BadRequest, Message, Opcode, decode_request};
 use fuse_wire::{Errno, InHeader, OutHeader};
 use plain_file::Memory;
 use std::alloc::Global;
@@ -84,7 +84,7 @@ pub fn header_at(readable: &[u8]) -> InHeader
 fn is_forget_number(opcode: u32) -> bool
     ensures { result ≡ is_forget_number opcode }
 {
-    opcode == 2 || opcode == 42
+    opcode == Opcode::Forget.number() || opcode == Opcode::BatchForget.number()
 }
 
 // The error that answers bytes which are no request.

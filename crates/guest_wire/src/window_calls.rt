@@ -11,13 +11,10 @@ use crate::replies::done;
 use crate::wires::{Wire, WireRefusal};
 use fuse_codec::Request;
 use fuse_wire::{FUSE_SETUPMAPPING_FLAG_READ, FUSE_SETUPMAPPING_FLAG_WRITE, RemoveOne, SetupIn};
-use page_map::{MapBoard, Mode};
+use page_map::{MapBoard, Mode, RANGE_SIZE};
 use plain_file::{FileBoard, List, Memory};
 use std::alloc::Global;
 use std::sync::Wait;
-
-// How many bytes a chunk of a file has, and a range of the window.
-const CHUNK: u64 = 2_097_152;
 
 impl<W> Driver<W> {
     /// Maps a whole chunk of a file to a whole range of the window: SETUPMAPPING without a handle (all
@@ -51,10 +48,10 @@ impl<W> Driver<W> {
         let unique = self.next_unique();
         let body = Request::Setup(SetupIn {
             fh: u64::MAX,
-            foffset: CHUNK * chunk as u64,
-            len: CHUNK,
+            foffset: RANGE_SIZE * chunk as u64,
+            len: RANGE_SIZE,
             flags: setup_flags(mode),
-            moffset: CHUNK * range as u64,
+            moffset: RANGE_SIZE * range as u64,
         });
         let reply = self.ask(rt, alloc, unique, node, body, files, map)?;
         done(reply);
@@ -100,8 +97,8 @@ fn whole_range(range: u32) -> RemoveOne
     ensures { result ≡ whole_range range }
 {
     RemoveOne {
-        moffset: CHUNK * range as u64,
-        len: CHUNK,
+        moffset: RANGE_SIZE * range as u64,
+        len: RANGE_SIZE,
     }
 }
 

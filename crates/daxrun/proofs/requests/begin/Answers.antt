@@ -1,9 +1,10 @@
+use Rattle.guest_wire.specs.Wires.{boards}
 use Rattle.guest_wire.proofs.Serving.{CanAsk-servable}
 use Rattle.daxrun.proofs.Asking.{begins, done, done_or_memory, live_again}
 use Rattle.daxrun.proofs.requests.begin.Goals as goal
 
 pub init-requires : goal.init-requires
-init-requires g c = record { boards = CanAsk-servable _ _ _ c.requires.live.whole c.requires.live.servable }
+init-requires g c = record { boards = CanAsk-servable (g.W.Wire.wire c.args.client.now.wire) (boards c.args.files.now c.args.map.now) _ c.requires.live.whole c.requires.live.servable }
 
 pub succeed-requires : goal.succeed-requires
 succeed-requires g c = done_or_memory _ _ _ _ _ (begins _ _ _ _ _ _ _ _ c.init.ensures.answer c.requires.live)

@@ -1,12 +1,13 @@
 use Rattle.std.proofs.Common.{◌∙◌, ap, ◌+◌}
 use Rattle.fuse_wire.specs.declared.attributes.EntryOut.{EntryOut}
+use Rattle.guest_wire.specs.Wires.{boards}
 use Rattle.guest_wire.proofs.Serving.{CanAsk-servable}
 use Rattle.daxrun.proofs.Asking.{finds, done, done_or_memory, entry_is, live_again, same_place}
 use Rattle.fuse_device.specs.State.{looked_up}
 use Rattle.daxrun.proofs.requests.look_up.Goals as goal
 
 pub lookup-requires : goal.lookup-requires
-lookup-requires g c = record { boards = CanAsk-servable _ _ _ c.requires.live.whole c.requires.live.servable }
+lookup-requires g c = record { boards = CanAsk-servable (g.W.Wire.wire c.args.client.now.wire) (boards c.args.files.now c.args.map.now) _ c.requires.live.whole c.requires.live.servable }
 
 pub succeed-requires : goal.succeed-requires
 succeed-requires g c =

@@ -2,12 +2,13 @@ use Rattle.std.proofs.Common.{ap, sym, subst}
 use Rattle.fuse_device.specs.State.{State, World, with_open}
 use Rattle.fuse_device.specs.OpenFiles.{HasOpenFile}
 use Rattle.fuse_device.proofs.OpenHandles.{opened_is_open}
+use Rattle.guest_wire.specs.Wires.{boards}
 use Rattle.guest_wire.proofs.Serving.{CanAsk-servable}
 use Rattle.daxrun.proofs.Asking.{opens, done, done_or_memory, live_again, opened_is}
 use Rattle.daxrun.proofs.requests.open_file.Goals as goal
 
 pub open_file-requires : goal.open_file-requires
-open_file-requires g c = record { boards = CanAsk-servable _ _ _ c.requires.live.whole c.requires.live.servable }
+open_file-requires g c = record { boards = CanAsk-servable (g.W.Wire.wire c.args.client.now.wire) (boards c.args.files.now c.args.map.now) _ c.requires.live.whole c.requires.live.servable }
 
 pub succeed-requires : goal.succeed-requires
 succeed-requires g c = done_or_memory _ _ _ _ _ (opens _ _ _ _ _ _ _ _ _ c.open_file.ensures.answer c.requires.live c.requires.started c.requires.known c.requires.made c.requires.may)
