@@ -27,8 +27,10 @@ use Rattle.fuse_device.specs.Entries.{entry_of, open_out_of}
 use Rattle.fuse_device.specs.Checks.{Outcome, refuse}
 use Rattle.fuse_device.specs.Requests.{done, applies, attr_of, opens, closes, with_state, seen_size, found, unlinked, opens_entry, makes_entry, created, resizes, span_of, is_bad_setup, init, destroy, getattr, setattr, open_file, open_dir, release, release_dir, sync, fallocate, read, write, lookup, unlink, create, forget, batch_forget, read_dir, setup, remove, answered, served}
 use Rattle.fuse_device.specs.Steps.{Step, judged_message, judged, forgot, replied, header_at, is_forget_number, device_step}
+use Rattle.fuse_device.specs.DataSteps.{data_step}
 use Rattle.fuse_device.specs.Promises.{CanStep, world}
 use Rattle.fuse_device.proofs.Clears.{first_of_both, rest_of_both, wiped_len, painted_len, whole_window}
+use Rattle.fuse_device.proofs.DataFiles.{data_step_either}
 use Rattle.std.proofs.lemmas.Grind.{common_steps}
 use Rattle.guest_wire.specs.Wires.{boards}
 use Rattle.guest_wire.specs.Keeps.{KeepsNote, KeepsFile, KeepsFiles, KeepsPages, KeepsBoards}
@@ -36,7 +38,7 @@ use Rattle.guest_wire.specs.Keeps.{KeepsNote, KeepsFile, KeepsFiles, KeepsPages,
 -- ---- what is left alone is kept
 
 -- what stands in a list stands there in a longer one
-pub place_in_longer : {X : Type 0} (xs ys : List X) (k : ℕ) (x : X) → slice_get xs k ≡ Some x → slice_get (xs ++ ys) k ≡ Some x
+place_in_longer : {X : Type 0} (xs ys : List X) (k : ℕ) (x : X) → slice_get xs k ≡ Some x → slice_get (xs ++ ys) k ≡ Some x
 place_in_longer [] ys k x e = absurd cc
 place_in_longer (y ∷ xs) ys zero x e = e
 place_in_longer (y ∷ xs) ys (suc k) x e = place_in_longer xs ys k x e
@@ -55,10 +57,10 @@ same_file f = record {
   notes = λ k n at. same_note (drop (length f.own) f.own) n (slice_get f.notes k) at;
 }
 
-same_files : (v : BoardView) → KeepsFiles v v
+pub same_files : (v : BoardView) → KeepsFiles v v
 same_files v = record { guest = refl; mark = refl; plain = refl; over = refl; may_lease = refl; others = refl; hands = refl; count = refl; each = λ file within. same_file (file_at v file) }
 
-same_pages : (v : MapView) → KeepsPages v v
+pub same_pages : (v : MapView) → KeepsPages v v
 same_pages v = record { plain = refl; over = refl; hands = refl; ranges = refl; count = refl }
 
 pub KeepsBoards-same : (files : BoardView) (map : MapView) → KeepsBoards (boards files map) (boards files map)
@@ -89,7 +91,7 @@ with_note_keeps z f = record {
 }
 
 -- one file is changed, and each is kept
-with_file_keeps : (v : BoardView) (i : ℕ) (f : FileView) → KeepsFile (file_at v i) f → (file : ℕ) → file < length v.files → KeepsFile (file_at v file) (file_at (with_file v i f) file)
+pub with_file_keeps : (v : BoardView) (i : ℕ) (f : FileView) → KeepsFile (file_at v i) f → (file : ℕ) → file < length v.files → KeepsFile (file_at v file) (file_at (with_file v i f) file)
 with_file_keeps v i f one file within = elim (cases_eq file i) [
   | inl same ↦ rw (same, file_at-with_file v i f (rw same at within)) one
   | inr other ↦ rw (file_at-with_other v i file f other) (same_file (file_at v file))
@@ -311,3 +313,10 @@ pub KeepsBoards-device_step : (s : State) (files : BoardView) (map : MapView) (r
     → KeepsBoards (boards files map) (boards (device_step (world s files map) readable room).0.files (device_step (world s files map) readable room).0.map)
 KeepsBoards-device_step s files map readable room can =
     keeps_by_step (world s files map) readable room (λ m e. record { pages = (can m e).pages })
+
+-- the device that stays as it is keeps the map as the whole one does
+pub KeepsPages-data_step : (w : World) (readable : List ℕ) (room : ℕ) → length w.map.table ≡ w.state.pages → KeepsPages w.map (data_step w readable room).0.map
+KeepsPages-data_step w readable room h = elim (data_step_either w readable room) [
+  | inl same ↦ rw same (same_pages w.map)
+  | inr step ↦ rw step (keeps_by_step w readable room (λ m e. record { pages = h })).map
+]
