@@ -12,6 +12,8 @@
 
 mod laws;
 mod queue;
+#[cfg(test)]
+mod shared_boards;
 mod solo;
 #[cfg(test)]
 mod tests;
