@@ -9,6 +9,7 @@ use Rattle.plain_file.specs.History.{Past, whole_bytes}
 use Rattle.plain_file.specs.Board.{FileView, FileHands, BoardView}
 use Rattle.plain_file.specs.Sound.{IsPlaceOf}
 use Rattle.fuse_device.specs.DataSteps.{data_step}
+use Rattle.fuse_device.specs.Promises.{IsServable}
 use Rattle.fuse_device.specs.State.{State, World}
 use Rattle.guest_wire.specs.Wires.{WireView, Boards, Sent, world_at, Honest}
 use Rattle.guest_wire.specs.declared.wires.WireError.{WireError}
@@ -68,3 +69,15 @@ abbrev pub GivesStep : World → Sent → Result (List ℕ) WireError → World 
 GivesStep old sent (Ok bytes) new = data_step old sent.bytes sent.room ≡ (new, bytes)
 GivesStep old sent (Err errors.Memory) new = new ≡ old
 GivesStep old sent (Err errors.Fault) new = ⊥
+
+-- ---- a daemon of one file
+
+-- at most one file, and no window
+pub record HasOne (s : State) : Type 0 where
+  pub few : length s.made ≤ 1
+  pub none : s.pages ≡ 0
+
+-- the same, over boards that can serve any request
+pub record Begins (w : World) : Type 0 where
+  pub one : HasOne w.state
+  pub servable : IsServable w
