@@ -1,2 +1,4 @@
 pub mod Rounds
 pub mod Carrying
+pub mod SharedBoards
+pub mod SharedTests

@@ -12,6 +12,10 @@
 
 mod laws;
 mod queue;
+#[cfg(test)]
+mod shared_boards;
+#[cfg(test)]
+mod shared_tests;
 mod solo;
 #[cfg(test)]
 mod tests;
