@@ -1,6 +1,7 @@
 -- What stays true of the device that serves a stream.
-use Rattle.std.proofs.Common.{◌≡◌, ◌∙◌, ap, refl, arith, ℕ, List, [], ◌∷◌, length, length-set, replicate, take, Result, Ok, Err, OnOk, OnErr}
-use Rattle.std.proofs.lemmas.List.{length-replicate}
+use Rattle.std.proofs.Common.{◌≡◌, ◌<◌, ◌≤◌, arith, ℕ, true, IsTrue, List, [], length, length-set, get_or, set, replicate, Result, Ok, Err, OnOk, OnErr, inl, inr}
+use Rattle.std.proofs.lemmas.Bool.{cases_eq}
+use Rattle.std.proofs.lemmas.List.{length-replicate, get_or-set_same, get_or-set_other}
 use Rattle.fuse_device.specs.Promises.{world}
 use Rattle.fuse_device.specs.State.{State, World, new_state}
 use Rattle.fuse_device.specs.Steps.{device_step}
@@ -10,14 +11,14 @@ use Rattle.page_map.specs.Board.{NamesFiles}
 use Rattle.fuse_device.proofs.Servable.{IsServable-device_step, servable_at_start}
 use Rattle.page_map.specs.Board.{MapView}
 use Rattle.page_map.specs.Plain.{new_map}
-use Rattle.plain_file.specs.Board.{BoardView, applied, entry_of, file_at, with_own}
+use Rattle.plain_file.specs.Board.{BoardView, FileView, IsReady, applied, entry_of, file_at, no_file, with_own}
 use Rattle.plain_file.specs.Plain.{new_board}
 use Rattle.plain_file.specs.declared.operations.First.{First}
+use Rattle.plain_file.specs.declared.operations.Op.{Op}
 use Rattle.plain_file.specs.declared.refusals.Memory.{Memory}
-use Rattle.window_access.specs.Access.{CanAccess, Piece, Stores, all_applied, pieces}
+use Rattle.window_access.specs.Access.{Stores}
 use Rattle.window_access.specs.declared.refusals.WindowRefusal.{WindowRefusal}
-use Rattle.window_access.specs.declared.refusals.WindowRefusal.TheVariants as refusals
-use Rattle.window_access.proofs.Names.{can_access_after_store}
+use Rattle.window_access.proofs.Names.{kept_by_store}
 use Rattle.daxwire.specs.Serve.{IsServing, empty_file, first_world}
 
 pub serving_at_start : (pages : ℕ) → IsServing (first_world pages)
@@ -45,35 +46,40 @@ names_of_board w h page p at =
     let both = h.names page p at in
     (both.0, omega (arith, both.1, h.servable.few, h.servable.enough))
 
-pub can_access : (w : World) → IsServing w → CanAccess w.files w.map
-can_access w h = record {
-  files = record { plain = h.servable.plain; ready = h.servable.ready };
-  names = names_of_board w h;
-}
-
 -- ---- stores
 
-all_applied_len : (ps : List Piece) (v : BoardView) → length (all_applied v ps).files ≡ length v.files
-unfolding all_applied
-all_applied_len [] v = refl
-all_applied_len (p ∷ ps) v = all_applied_len ps (applied v p.file p.op) ∙ length-set v.files p.file (with_own v.plain (entry_of v p.op) (file_at v p.file))
+-- one place of a list is changed, and what holds at each place still does
+everywhere-set : {A : Type 0} (P : A → Type 0) (xs : List A) (i : ℕ) (x d : A) → P x → ((k : ℕ) → k < length xs → P (get_or xs k d))
+    → (k : ℕ) → k < length (set xs i x) → P (get_or (set xs i x) k d)
+everywhere-set P xs i x d one all k within =
+    let inside : k < length xs = rw (length-set xs i x) at within in
+    elim (cases_eq k i) [
+      | inl same ↦ rw (same, get_or-set_same xs i x d (rw same at inside)) one
+      | inr other ↦ rw (get_or-set_other xs i k x d other) (all k inside)
+    ]
 
-stores_len : (old new : BoardView) (m : MapView) (moffset : ℕ) (bytes : List ℕ) (r : Result (Unit {0}) WindowRefusal) → Stores old m moffset bytes r new → length new.files ≡ length old.files
-stores_len old new m moffset bytes (Ok u) s = ap (λ (v : BoardView). length v.files) s.1 ∙ all_applied_len (pieces m moffset bytes) old
-stores_len old new m moffset bytes (Err (refusals.Unmapped at)) s = ap (λ (v : BoardView). length v.files) s.1
-stores_len old new m moffset bytes (Err (refusals.ReadOnly at)) s = ap (λ (v : BoardView). length v.files) s.1
-stores_len old new m moffset bytes (Err (refusals.PastEnd at)) s = ap (λ (v : BoardView). length v.files) s.1
-stores_len old new m moffset bytes (Err refusals.Memory) s = ap (λ (v : BoardView). length v.files) s.1.2 ∙ all_applied_len (take s.1.0 (pieces m moffset bytes)) old
+-- what a device needs of its files
+record IsServed (v : BoardView) : Type 0 where
+  pub plain : v.plain ≡ true
+  pub enough : 16 ≤ length v.files
+  pub ready : (file : ℕ) → file < length v.files → IsReady v file
+
+served_applied : (v : BoardView) (file : ℕ) (op : Op) → IsServed v → IsServed (applied v file op)
+served_applied v file op h = record {
+  plain = h.plain;
+  enough = rw (length-set v.files file (with_own v.plain (entry_of v op) (file_at v file))) h.enough;
+  ready = everywhere-set (λ (f : FileView). IsTrue f.ready) v.files file (with_own v.plain (entry_of v op) (file_at v file)) no_file h.plain h.ready;
+}
 
 -- a store keeps it
 pub serving_after_store : (s : State) (old new : BoardView) (m : MapView) (moffset : ℕ) (bytes : List ℕ) (r : Result (Unit {0}) WindowRefusal) → IsServing (world s old m) → Stores old m moffset bytes r new → IsServing (world s new m)
 serving_after_store s old new m moffset bytes r h stores =
-    let can = can_access_after_store old new m moffset bytes r (can_access (world s old m) h) stores in
+    let served = kept_by_store IsServed served_applied old new m moffset bytes r stores (record { plain = h.servable.plain; enough = h.servable.enough; ready = h.servable.ready }) in
     record {
       servable = record {
-        plain = can.files.plain;
-        enough = rw (stores_len old new m moffset bytes r stores) h.servable.enough;
-        ready = can.files.ready;
+        plain = served.plain;
+        enough = served.enough;
+        ready = served.ready;
         few = h.servable.few;
         free = h.servable.free;
         pages = h.servable.pages;

@@ -1,11 +1,9 @@
 -- The board after the pieces of a store.
-use Rattle.std.proofs.Common.{◌≡◌, ◌≢◌, ◌∙◌, ap, sym, subst, refl, ℕ, zero, suc, ◌+◌, ◌-◌, ◌*◌, ◌/◌, ◌<◌, ◌≤◌, max, IsTrue, List, [], ◌∷◌, ◌++◌, length, length-set, set, get_or, map, take, None, Result, Ok, Err, OnErr, inl, inr, arith}
-use Rattle.std.proofs.lemmas.Bool.{cases_eq}
-use Rattle.std.proofs.lemmas.List.{get_or-set_same, get_or-set_other}
+use Rattle.std.proofs.Common.{◌≡◌, ◌≢◌, ◌∙◌, ap, sym, subst, refl, ℕ, zero, suc, ◌+◌, ◌-◌, ◌*◌, ◌/◌, ◌<◌, ◌≤◌, max, List, [], ◌∷◌, ◌++◌, length, length-set, map, take, None, Result, Ok, Err, OnErr, arith}
 use Rattle.std.proofs.Math.Seq.{take-length}
 use Rattle.std.proofs.lemmas.List.FromFn.{length-map-range_with_len, map-range_with_len_more, take-map-range_with_len}
 use Rattle.page_map.specs.Board.{MapView, mapped_byte}
-use Rattle.plain_file.specs.Board.{Applies, BoardView, FileView, applied, file_at, no_file, with_own, entry_of}
+use Rattle.plain_file.specs.Board.{Applies, BoardView, applied, file_at, with_own, entry_of}
 use Rattle.plain_file.specs.declared.operations.Applied.{Applied}
 use Rattle.plain_file.specs.declared.operations.Op.{Op}
 use Rattle.plain_file.specs.declared.refusals.BoardRefusal.{BoardRefusal}
@@ -23,23 +21,10 @@ nothing_applied v = refl
 
 -- ---- what stays
 
--- one place of a list is changed, and what holds at each place still does
-everywhere-set : {A : Type 0} (P : A → Type 0) (xs : List A) (i : ℕ) (x d : A) → P x → ((k : ℕ) → k < length xs → P (get_or xs k d))
-    → (k : ℕ) → k < length (set xs i x) → P (get_or (set xs i x) k d)
-everywhere-set P xs i x d one all k within =
-    let inside : k < length xs = rw (length-set xs i x) at within in
-    elim (cases_eq k i) [
-      | inl same ↦ rw (same, get_or-set_same xs i x d (rw same at inside)) one
-      | inr other ↦ rw (get_or-set_other xs i k x d other) (all k inside)
-    ]
-
 -- after an operation a plain board can still be accessed
 pub can_applied : (v : BoardView) (map : MapView) (file : ℕ) (op : Op) → CanAccess v map → CanAccess (applied v file op) map
 can_applied v map file op can = record {
-  files = record {
-    plain = can.files.plain;
-    ready = everywhere-set (λ (f : FileView). IsTrue f.ready) v.files file (with_own v.plain (entry_of v op) (file_at v file)) no_file can.files.plain can.files.ready;
-  };
+  plain = can.plain;
   names = λ page p at.
       let many : length v.files ≡ length (applied v file op).files = sym (length-set v.files file (with_own v.plain (entry_of v op) (file_at v file))) in
       subst (λ (n : ℕ). (2 ≤ p.node) × (p.node - 2 < n)) many (can.names page p at);

@@ -6,7 +6,7 @@ use Rattle.page_map.specs.Board.{MapView, NamesFiles, mapped_byte}
 use Rattle.page_map.specs.Logs.{is_writable}
 use Rattle.page_map.specs.declared.pages.Mode.TheVariants as modes
 use Rattle.page_map.specs.declared.pages.Page.{Page}
-use Rattle.plain_file.specs.Board.{BoardView, FileView, file_at, bytes_now, size_of, applied, IsReady}
+use Rattle.plain_file.specs.Board.{BoardView, FileView, file_at, bytes_now, size_of, applied}
 use Rattle.plain_file.specs.File.{max_file}
 use Rattle.plain_file.specs.declared.operations.Op.{Op}
 use Rattle.plain_file.specs.declared.operations.Op.TheVariants as ops
@@ -17,14 +17,9 @@ use Rattle.window_access.specs.declared.refusals.WindowRefusal.TheVariants as re
 
 -- ---- what the window is of
 
--- a plain board, all of whose files are ready
-pub record IsPlainReady (v : BoardView) : Type 0 where
-  pub plain : v.plain ≡ true
-  pub ready : (file : ℕ) → file < length v.files → IsReady v file
-
--- what an access asks of both boards
+-- what an access asks of both boards: that of the files is a plain one, and what is mapped are its files
 pub record CanAccess (v : BoardView) (map : MapView) : Type 0 where
-  pub files : IsPlainReady v
+  pub plain : v.plain ≡ true
   pub names : NamesFiles (length v.files) map
 
 -- the file of a mapped byte

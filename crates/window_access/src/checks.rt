@@ -1,9 +1,9 @@
-ghost use Rattle.std.specs.Prelude.{◌≡◌, ◌<◌, ◌≤◌, ◌+◌, ◌-◌, ◌*◌, ◌%◌, ◌^◌, Some, None, min, length, OnOk, OnErr, IfErr, ℕ, nat_le, nat_lt, if◌then◌else◌};
+ghost use Rattle.std.specs.Prelude.{◌≡◌, ◌<◌, ◌≤◌, ◌+◌, ◌-◌, ◌*◌, ◌%◌, ◌^◌, Some, None, true, min, length, OnOk, OnErr, IfErr, ℕ, nat_le, nat_lt, if◌then◌else◌};
 ghost use Rattle.page_map.specs.Board.{mapped_byte};
 ghost use Rattle.plain_file.specs.Board.{file_at, size_of};
 ghost use Rattle.plain_file.specs.File.{max_file};
 ghost use Rattle.window_access.specs.declared.refusals.Cause.TheVariants as causes;
-ghost use Rattle.window_access.specs.Access.{CanAccess, IsPlainReady, IsBelow, IsGranted, IsMapped, file_of, first_failing, refusal_at, load_refusal, store_refusal, IsRefusal};
+ghost use Rattle.window_access.specs.Access.{CanAccess, IsBelow, IsGranted, IsMapped, file_of, first_failing, refusal_at, load_refusal, store_refusal, IsRefusal};
 
 use crate::refusals::{Cause, WindowRefusal};
 use page_map::{MapBoard, Mode, PAGE_SIZE, Page, PageMap};
@@ -22,7 +22,7 @@ pub(crate) fn in_page(at: u64, len: u64) -> u64
 
 // The size of the file of a mapped byte.
 fn size_of<F: FileBoard>(files: &mut F, p: &Page) -> u64
-    requires ready { IsPlainReady (F.board files.old) }
+    requires plain { (F.board files.old).plain ≡ true }
     requires named { 2 ≤ p.now.node }
     requires within { p.now.node - 2 < length (F.board files.old).files }
     ensures value { result ≡ size_of (file_of (F.board files.old) p.now) }

@@ -1,8 +1,8 @@
-ghost use Rattle.std.specs.Prelude.{◌≡◌, ◌<◌, ◌≤◌, ◌+◌, ◌%◌, ◌^◌, length, IfOk};
+ghost use Rattle.std.specs.Prelude.{◌≡◌, ◌<◌, ◌≤◌, ◌+◌, ◌%◌, ◌^◌, true, length, IfOk};
 ghost use Rattle.plain_file.specs.Limits.{max_transfer};
 ghost use Rattle.window_access.specs.declared.refusals.Cause.TheVariants as causes;
 ghost use Rattle.page_map.specs.Board.{NamesFiles};
-ghost use Rattle.window_access.specs.Access.{IsPlainReady, CanAccess, IsGranted, Loads, AreShown, loaded};
+ghost use Rattle.window_access.specs.Access.{CanAccess, IsGranted, Loads, AreShown, loaded};
 
 use crate::checks::{check_load, in_page};
 use crate::refusals::WindowRefusal;
@@ -13,8 +13,7 @@ use std::alloc::Global;
 /// The `len` bytes of the window from the offset `moffset` on, as the files have them now. It makes no
 /// entry, and changes nothing.
 ///
-/// The board is a plain one, whose files are all ready and include the file of each mapped page; at most
-/// 1,048,576 bytes are asked for. None are loaded at every offset.
+/// The board is a plain one, and has the file of each mapped page; at most 1,048,576 bytes are asked for. None are loaded at every offset.
 ///
 /// `Unmapped` comes exactly where one of the bytes isn't mapped or is past the window; otherwise
 /// `PastEnd` exactly where one lies at or past its file's end; each tells the first such byte. `Memory`
@@ -26,7 +25,7 @@ pub fn load_window<F: FileBoard>(
     moffset: u64,
     len: u32,
 ) -> Result<Blob, WindowRefusal>
-    requires ready { IsPlainReady (F.board files.old) }
+    requires plain { (F.board files.old).plain ≡ true }
     requires names { NamesFiles (length (F.board files.old).files) map.now }
     requires small { len ≤ max_transfer }
     ensures loads { Loads (F.board files.old) map.now moffset len result }
@@ -52,7 +51,9 @@ fn load_in_page<F: FileBoard>(files: &F, map: &PageMap, at: u64, out: &mut [u8])
 {
     if let Some(p) = map.find(at) {
         let _count = files.count();
-        files.read_into((p.node - 2) as u32, p.foffset, out);
+        let file = (p.node - 2) as u32;
+        files.sound(file);
+        files.read_into(file, p.foffset, out);
     }
 }
 

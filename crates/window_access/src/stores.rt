@@ -1,10 +1,10 @@
-ghost use Rattle.std.specs.Prelude.{◌≡◌, ◌≢◌, ◌<◌, ◌≤◌, ◌+◌, ◌-◌, ◌*◌, ◌/◌, ◌%◌, ◌^◌, None, length, OnOk, OnErr};
+ghost use Rattle.std.specs.Prelude.{◌≡◌, ◌≢◌, ◌<◌, ◌≤◌, ◌+◌, ◌-◌, ◌*◌, ◌/◌, ◌%◌, ◌^◌, None, true, length, OnOk, OnErr};
 ghost use Rattle.plain_file.specs.Limits.{max_transfer};
 ghost use Rattle.plain_file.specs.Board.{applied};
 ghost use Rattle.plain_file.specs.File.{max_file};
 ghost use Rattle.plain_file.specs.declared.operations.Op.TheVariants as ops;
 ghost use Rattle.page_map.specs.Board.{mapped_byte, NamesFiles};
-ghost use Rattle.window_access.specs.Access.{IsPlainReady, CanAccess, IsBelow, IsMapped, IsPartlyStored, Stores, piece_at, piece_bytes, piece_start, stored, touched};
+ghost use Rattle.window_access.specs.Access.{CanAccess, IsBelow, IsMapped, IsPartlyStored, Stores, piece_at, piece_bytes, piece_start, stored, touched};
 
 use crate::checks::{check_store, in_page};
 use crate::refusals::WindowRefusal;
@@ -15,8 +15,7 @@ use std::alloc::Global;
 /// Stores bytes in the window from the offset `moffset` on: in each page that they touch, in order, by
 /// one write to its file.
 ///
-/// The board is a plain one, whose files are all ready and include the file of each mapped page; there
-/// are at most 1,048,576 bytes. No bytes are stored at every offset.
+/// The board is a plain one, and has the file of each mapped page; there are at most 1,048,576 bytes. No bytes are stored at every offset.
 ///
 /// `Unmapped` comes exactly where one of the bytes isn't mapped or is past the window; otherwise
 /// `ReadOnly` exactly where the mapping of one doesn't allow writing; otherwise `PastEnd` exactly where
@@ -30,7 +29,7 @@ pub fn store_window<F: FileBoard>(
     moffset: u64,
     bytes: &[u8],
 ) -> Result<(), WindowRefusal>
-    requires ready { IsPlainReady (F.board files.old) }
+    requires plain { (F.board files.old).plain ≡ true }
     requires names { NamesFiles (length (F.board files.old).files) map.now }
     requires small { length bytes.now ≤ max_transfer }
     ensures { Stores (F.board files.old) map.now moffset bytes.now result (F.board files.new) }
@@ -71,12 +70,14 @@ fn write<F: FileBoard>(
 {
     let _map = map;
     let _count = files.count();
+    let file = (p.node - 2) as u32;
+    files.sound(file);
     let op = Op::Write {
         off: p.foffset,
         bytes: Blob::copy_of(alloc, bytes)?,
     };
     // A plain board refuses for want of memory alone.
-    match files.apply(alloc, (p.node - 2) as u32, op) {
+    match files.apply(alloc, file, op) {
         Ok(_) => Ok(()),
         Err(_) => Err(Memory),
     }

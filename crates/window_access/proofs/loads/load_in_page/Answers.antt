@@ -3,8 +3,8 @@ use Rattle.window_access.proofs.InPage.{named_byte}
 use Rattle.window_access.proofs.Loading.{not_unmapped, whole_read}
 use Rattle.window_access.proofs.loads.load_in_page.Goals as goal
 
-pub overflow_sub-p : goal.overflow_sub-p
-overflow_sub-p g c =
+pub overflow_sub-file : goal.overflow_sub-file
+overflow_sub-file g c =
     (named_byte (length (g.F.FileBoard.board c.args.files.now).files) c.args.map.now c.args.at c.in-Some.p c.requires.can.names (sym c.find.ensures.byte ∙ c.in-Some.is)).0
 
 pub returns-in-Some : goal.returns-in-Some

@@ -7,7 +7,7 @@ use Rattle.window_access.proofs.Loading.{loaded_shown}
 use Rattle.window_access.proofs.loads.load_window.Goals as goal
 
 pub load-requires-clause-can : goal.load-requires-clause-can
-load-requires-clause-can g c = subst (λ (v : BoardView). CanAccess v c.args.map.now) (sym c.check_load.ensures.same) (record { files = c.requires.ready; names = c.requires.names })
+load-requires-clause-can g c = subst (λ (v : BoardView). CanAccess v c.args.map.now) (sym c.check_load.ensures.same) (record { plain = c.requires.plain; names = c.requires.names })
 
 pub returns-clause-shown : goal.returns-clause-shown
 returns-clause-shown g c =
