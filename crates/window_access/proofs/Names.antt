@@ -1,11 +1,10 @@
 -- What keeps both boards accessible.
 use Rattle.std.proofs.Common.{◌≡◌, refl, ◌<◌, ◌≤◌, ℕ, ◌-◌, true, List, [], ◌∷◌, length, map, take, Result, Ok, Err}
-use Rattle.std.proofs.lemmas.List.{length-map, get_or-map}
 use Rattle.page_map.specs.Board.{MapView, wiped, painted, is_whole}
 use Rattle.page_map.specs.Plain.{new_map}
 use Rattle.page_map.specs.declared.pages.Span.{Span}
-use Rattle.plain_file.specs.Board.{BoardView, applied, no_file}
-use Rattle.plain_file.specs.Plain.{new_board, new_file}
+use Rattle.plain_file.specs.Board.{BoardView, applied}
+use Rattle.plain_file.specs.Plain.{new_board}
 use Rattle.plain_file.specs.declared.operations.First.{First}
 use Rattle.plain_file.specs.declared.operations.Op.{Op}
 use Rattle.page_map.proofs.Names.{NamesFiles-wiped, NamesFiles-painted, NamesFiles-new_map}
