@@ -3,7 +3,6 @@ use Rattle.std.proofs.Common.{◌≡◌, ◌≢◌, ◌∙◌, ap, sym, subst, r
 use Rattle.std.proofs.Common.{inl, inr}
 use Rattle.std.specs.Prelude.{All, IfSome}
 use Rattle.std.proofs.lemmas.Bool.{cases_Bool}
-use Rattle.std.proofs.lemmas.Grind.{common_steps}
 use Rattle.std.proofs.lemmas.List.{append-nil, length-append}
 use Rattle.std.proofs.lemmas.List.Elements.{All-nil, All-cons, All-append}
 use Rattle.std.proofs.lemmas.Option.{slice_get_within, get_or_from_slice_get}
@@ -14,8 +13,8 @@ use Rattle.plain_file.specs.declared.operations.Op.{Op}
 use Rattle.plain_file.specs.declared.refusals.RefusedBar.{RefusedBar}
 use Rattle.plain_file.specs.File.{max_file, written, after}
 use Rattle.plain_file.specs.History.{Past, whole_bytes, next_answer, grown}
-use Rattle.plain_file.specs.Board.{FileView, BoardView, file_at, with_own, entry_of, bytes_now, size_of, is_file, file_may_apply, may_apply, file_answer, Applies}
-use Rattle.plain_file.specs.Sound.{IsPlaceOf, IsSoundFile, IsSoundBoard}
+use Rattle.plain_file.specs.Board.{FileView, BoardView, file_at, with_own, entry_of, bytes_now, is_file, file_may_apply, may_apply, file_answer, Applies}
+use Rattle.plain_file.specs.Sound.{IsPlaceOf, IsSoundBoard}
 use Rattle.plain_file.proofs.Grows.{bytes-grown}
 use Rattle.plain_file.proofs.OneFile.{file_at-with_file}
 use Rattle.plain_file.proofs.Places.{length-written}

@@ -1,8 +1,6 @@
 -- A daemon of one file stays one, and so do the boards that share it.
-use Rattle.std.proofs.Common.{◌≡◌, ◌∙◌, ap, sym, subst, refl, ◌≤◌, ◌<◌, arith, ℕ, Bool, true, false, length, List, Result, Ok, Err, if◌then◌else◌}
-use Rattle.fuse_codec.specs.declared.messages.Message.{Message}
+use Rattle.std.proofs.Common.{◌≡◌, ◌∙◌, ap, sym, subst, refl, ℕ, Bool, true, false, Result, Ok, Err, if◌then◌else◌}
 use Rattle.fuse_codec.specs.declared.messages.Head.{Head}
-use Rattle.fuse_codec.specs.declared.messages.Request.{Request}
 use Rattle.fuse_codec.specs.declared.messages.Request.TheVariants as asks
 use Rattle.fuse_codec.specs.declared.replies.Reply.{Reply}
 use Rattle.fuse_wire.specs.declared.inits.InitIn.{InitIn}
@@ -10,13 +8,13 @@ use Rattle.fuse_wire.specs.declared.opens.OpenIn.{OpenIn}
 use Rattle.fuse_wire.specs.declared.errno.Errno.{Errno}
 use Rattle.fuse_device.specs.declared.refusals.Refused.{Refused}
 use Rattle.fuse_device.specs.declared.refusals.Refused.TheVariants as refusals
-use Rattle.fuse_device.specs.State.{State, World, made_at, with_open, begun}
+use Rattle.fuse_device.specs.State.{State, World, with_open, begun}
 use Rattle.fuse_device.specs.Checks.{Outcome}
-use Rattle.fuse_device.specs.Requests.{init, open_file, opens, answered, is_init, is_forget, served, done}
-use Rattle.fuse_device.specs.Promises.{IsServable, CanServe, Gives}
+use Rattle.fuse_device.specs.Requests.{init, open_file, answered, is_init, is_forget, served}
+use Rattle.fuse_device.specs.Promises.{Gives}
 use Rattle.guest_wire.specs.Wires.{Boards, CanShare}
 use Rattle.guest_wire.specs.Keeps.{KeepsBoards}
-use Rattle.dax_host.specs.SharedBoards.{HasOne, Begins}
+use Rattle.dax_host.specs.SharedBoards.{Begins}
 
 -- the same boards, files and window
 pub record Same (w : World) (o : Outcome) : Type 0 where

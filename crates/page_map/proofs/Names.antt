@@ -1,5 +1,5 @@
 -- What keeps it that the window maps files that there are.
-use Rattle.std.proofs.Common.{◌≡◌, ◌∙◌, ap, sym, refl, ◌<◌, ◌≤◌, ℕ, zero, suc, ◌-◌, true, List, length, get_or, replicate, Option, Some, None, unwrap_or, inl, inr}
+use Rattle.std.proofs.Common.{◌≡◌, ◌∙◌, ap, sym, refl, ◌<◌, ◌≤◌, ℕ, zero, suc, ◌-◌, true, length, get_or, replicate, Option, Some, None, unwrap_or, inl, inr}
 use Rattle.std.proofs.lemmas.Bool.{cases_Bool}
 use Rattle.page_map.specs.Board.{MapView, NamesFiles, wiped, painted, is_whole}
 use Rattle.page_map.specs.Window.{is_within, page_of}

@@ -1,6 +1,6 @@
 -- What holds of a plain board's files.
-use Rattle.std.proofs.Common.{◌≡◌, ◌∙◌, sym, ap, refl, ℕ, ◌<◌, ◌≤◌, true, true≢false, List, [], ◌∷◌, length, zero, suc, slice_get, get_or, Some, Option, arith}
-use Rattle.std.specs.Prelude.{All, map, replicate}
+use Rattle.std.proofs.Common.{◌≡◌, ◌∙◌, sym, refl, ℕ, ◌<◌, ◌≤◌, true, true≢false, List, [], ◌∷◌, length, zero, suc, slice_get, get_or, Some, Option, arith}
+use Rattle.std.specs.Prelude.{All, map}
 use Rattle.std.specs.List.{range_with_len}
 use Rattle.std.proofs.lemmas.List.Elements.{All-nil, All-map, All-append}
 use Rattle.std.proofs.lemmas.List.FromFn.{length-range_with_len, get_or-range_with_len}
@@ -11,7 +11,7 @@ use Rattle.plain_file.specs.declared.operations.Op.TheVariants as ops
 use Rattle.plain_file.specs.declared.operations.Way.TheVariants as ways
 use Rattle.plain_file.specs.declared.refusals.RefusedBar.{RefusedBar}
 use Rattle.plain_file.specs.File.{max_file}
-use Rattle.plain_file.specs.History.{Past, whole_bytes}
+use Rattle.plain_file.specs.History.{Past}
 use Rattle.plain_file.specs.Board.{FileView, size_of, with_own}
 use Rattle.plain_file.specs.Sound.{IsPlaceOf, IsSoundFile}
 use Rattle.plain_file.specs.Plain.{own_file, new_file, IsAllOf}

@@ -1,11 +1,10 @@
 -- Turns, leases and bars: what the calls of guests that run side by side make of a board.
-use Rattle.std.specs.Prelude.{◌≡◌, ◌≢◌, ℕ, ◌+◌, ◌-◌, ◌^◌, ◌<◌, ◌≤◌, ◌==◌, min, true, false, Bool, is_some, List, [], ◌∷◌, ◌++◌, length, map, slice_index_or, slice_set, Option, None, Some, Result, Ok, Err, All, if◌then◌else◌}
+use Rattle.std.specs.Prelude.{◌≡◌, ◌≢◌, ℕ, ◌+◌, ◌-◌, ◌<◌, ◌≤◌, ◌==◌, true, false, Bool, is_some, List, [], ◌++◌, length, map, slice_index_or, slice_set, Option, None, Some, Result, Ok, Err, All, if◌then◌else◌}
 use Rattle.plain_file.specs.declared.operations.Op.{Op}
 use Rattle.plain_file.specs.declared.operations.Applied.{Applied}
 use Rattle.plain_file.specs.declared.operations.Entry.{Entry}
 use Rattle.plain_file.specs.declared.refusals.BoardRefusal.{BoardRefusal}
 use Rattle.plain_file.specs.declared.refusals.Leased.{Leased}
-use Rattle.plain_file.specs.declared.refusals.RefusedBar.{RefusedBar}
 use Rattle.plain_file.specs.Board.{Note, FileView, FileHands, BoardView, file_at, with_file, with_note, size_of, Applies}
 use Rattle.plain_file.specs.Counts.{more_by_one}
 use Rattle.plain_file.specs.Sound.{IsSoundBoard}

@@ -1,5 +1,5 @@
 use Rattle.std.proofs.Common.{subst}
-use Rattle.page_map.specs.Board.{MapView, IsSoundPages}
+use Rattle.page_map.specs.Board.{IsSoundPages}
 use Rattle.page_map.proofs.Showing.{IsSoundPages-plain}
 use Rattle.page_map.proofs.maps.PageMapMapBoard.sound.Goals as goal
 
