@@ -46,9 +46,11 @@ pub sees_none : (guest : ℕ) (p : Past) → Sees guest p p
 sees_none guest p = ([], All-nil (λ (e : Entry). e.guest ≢ guest), ap (λ (h : List Entry). record p { history = h }) (sym (append-nil p.history)))
 
 pub sees_both : (guest : ℕ) (p q r : Past) → Sees guest p q → Sees guest q r → Sees guest p r
-sees_both guest p q r (more, others, e) (again, too, h) =
-    (more ++ again, All-append (λ (e : Entry). e.guest ≢ guest) more again others too,
-    h ∙ ap (λ (x : Past). record x { history = x.history ++ again }) e ∙ ap (λ (x : List Entry). record p { history = x }) (append_assoc p.history more again))
+sees_both guest p q r (more, others, e) (again, too, h) = (
+  more ++ again,
+  All-append (λ (e : Entry). e.guest ≢ guest) more again others too,
+  h ∙ ap (λ (x : Past). record x { history = x.history ++ again }) e ∙ ap (λ (x : List Entry). record p { history = x }) (append_assoc p.history more again),
+)
 
 -- ---- the one file
 
@@ -104,7 +106,7 @@ own_entry guest mark op = record { guest = guest; call = mark.call; op = op; way
 pub turn_applies : (guest : ℕ) (mark : Mark) (turn bar : Bool) (leases : ℕ) (past : Past) (own : List ℕ) (ready : Bool) (floor : Option ℕ) (refusals : ℕ) (refused : Option RefusedBar) (file : ℕ) (op : Op) (a : Applied)
     → file < 1 → (not bar && falls past op) ≡ false → a ≡ next_answer past op
     → Applies (turn_board guest mark (turn_hands turn bar leases) (turn_file past own ready floor refusals refused)) file op (Ok a)
-      (turn_board guest mark (turn_hands turn bar leases) (turn_file (grown past (own_entry guest mark op)) (own ++ length past.history ∷ []) false floor refusals refused))
+    (turn_board guest mark (turn_hands turn bar leases) (turn_file (grown past (own_entry guest mark op)) (own ++ length past.history ∷ []) false floor refusals refused))
 unfolding bytes_now file_answer
 turn_applies guest mark turn bar leases past own ready floor refusals refused (suc n) op a within may answer = absurd (omega (arith, within))
 turn_applies guest mark turn bar leases past own ready floor refusals refused zero op a within may answer = (may_turn bar (turn_file past own ready floor refusals refused) op may, answer, refl)
@@ -225,12 +227,12 @@ rising_more own end rising below i j p q before at_i at_j =
     let inside : j < length own + 1 = rw length-append at (slice_get_within (own ++ end ∷ []) j q at_j) in
     let first : slice_get own i ≡ Some p = slice_get_less own (end ∷ []) i p at_i (omega (arith, before, inside)) in
     elim (cases_Bool (nat_lt j (length own))) [
-    | inl low ↦ rising i j p q before first (slice_get_less own (end ∷ []) j q at_j (grind (arith, low)))
-    | inr high ↦
-        let at : j ≡ length own = grind (arith, high, inside) in
-        let found : slice_get (own ++ end ∷ []) j ≡ Some end = rw at (slice_get_end own end) in
-        let last : q ≡ end = same_number (slice_get (own ++ end ∷ []) j) q end at_j found in
-        rw last (below i p first)
+      | inl low ↦ rising i j p q before first (slice_get_less own (end ∷ []) j q at_j (grind (arith, low)))
+      | inr high ↦
+          let at : j ≡ length own = grind (arith, high, inside) in
+          let found : slice_get (own ++ end ∷ []) j ≡ Some end = rw at (slice_get_end own end) in
+          let last : q ≡ end = same_number (slice_get (own ++ end ∷ []) j) q end at_j found in
+          rw last (below i p first)
     ]
 
 grown_noted : (bar : Bool) (leases : ℕ) (floor : Option ℕ) (m n : ℕ) → (bar ≡ true → leases ≡ 0) → (leases ≡ 0 → floor ≡ None) → (not bar && nat_lt n m) ≡ false → IfSome floor (λ z. z ≤ m) → IfSome floor (λ z. z ≤ n)

@@ -13,8 +13,8 @@ use daemon_core::Daemon;
 use guest_wire::{Wire, WireError};
 use page_map::MapBoard;
 use plain_file::{
-    Applied, Blob, BoardRefusal, Body, Entry, FileBoard, FileTurns, First, Leased, List, Mark, Memory, Op,
-    RefusedBar, Way,
+    Applied, Blob, BoardRefusal, Body, Entry, FileBoard, FileTurns, First, Leased, List, Mark,
+    Memory, Op, RefusedBar, Way,
 };
 use std::alloc::Global;
 use std::marker::Model;
@@ -118,13 +118,7 @@ fn see_all(alloc: Global, guest: u32, body: &mut Body, coming: &mut Vec<Entry>)
 }
 
 // Applies the entries that come, unless the file is leased.
-fn see_unless(
-    leased: bool,
-    alloc: Global,
-    guest: u32,
-    body: &mut Body,
-    coming: &mut Vec<Entry>,
-)
+fn see_unless(leased: bool, alloc: Global, guest: u32, body: &mut Body, coming: &mut Vec<Entry>)
     requires { All (IsComing guest) coming.old.items }
     ensures coming { All (IsComing guest) coming.new.items }
     ensures seen { Sees guest body.old body.new }

@@ -31,8 +31,7 @@ fn one_name(alloc: Global) -> Result<List<Name>, Memory>
     Ok(names)
 }
 
-fn head(node: u64) -> Head
-{
+fn head(node: u64) -> Head {
     Head {
         unique: 1,
         nodeid: node,
@@ -178,9 +177,15 @@ fn others_come_between(rt: HostRuntime) -> Result<(), Fail> {
     let mut files = others_file(alloc)?;
     let mut map = PageMap::new(alloc, 0)?;
     let bytes = Blob::copy_of(alloc, b"hell")?;
-    assert_eq!(rt; read_a(&rt, alloc, &daemon, &mut files, &mut map), Ok(bytes));
+    assert_eq!(rt;
+        read_a(&rt, alloc, &daemon, &mut files, &mut map),
+        Ok(bytes)
+    );
     assert_eq!(rt; size_of_a(&rt, alloc, &daemon, &mut files, &mut map), Ok(4));
-    assert_eq!(rt; cut_a(&rt, alloc, &daemon, &mut files, &mut map), Err(WireRefusal::Errno { number: 16 }));
+    assert_eq!(rt;
+        cut_a(&rt, alloc, &daemon, &mut files, &mut map),
+        Err(WireRefusal::Errno { number: 16 })
+    );
     assert_eq!(rt; guest_at(&files, 0), Some(1));
     assert_eq!(rt; guest_at(&files, 1), Some(1));
     assert_eq!(rt; guest_at(&files, 2), Some(3));

@@ -1,11 +1,19 @@
--- What holds of the bytes that a source tells, where it tells them.
-use Rattle.std.proofs.Common.{ℕ, List, Option, Some, None}
+-- What holds of an input that is the source's bytes where it tells them.
+use Rattle.std.proofs.Common.{◌≡◌, ℕ, ◌<◌, suc, List, [], length, replicate, Option, Some, None, refl, arith}
 use Rattle.std.specs.Prelude.{IfSome}
+use Rattle.std.proofs.lemmas.List.{length-replicate}
 
-pub IfSome-each : (o : Option (List ℕ)) (P : List ℕ → Type 0) → ((xs : List ℕ) → P xs) → IfSome o P
-IfSome-each None P h = tt
-IfSome-each (Some xs) P h = h xs
+pub each_input : (o : Option (List ℕ)) (P : List ℕ → Type 0) → ((xs : List ℕ) → P xs) → (input : List ℕ) × IfSome o (λ xs. input ≡ xs) × P input
+each_input None P h = ([], tt, h [])
+each_input (Some xs) P h = (xs, refl, h xs)
 
-pub IfSome-map : (o : Option (List ℕ)) (P Q : List ℕ → Type 0) → ((xs : List ℕ) → P xs → Q xs) → IfSome o P → IfSome o Q
-IfSome-map None P Q h p = tt
-IfSome-map (Some xs) P Q h p = h xs p
+-- so many zeros
+abbrev zeros : ℕ → List ℕ
+zeros n = replicate n 0
+
+longer : (n : ℕ) → n < length (zeros (suc n))
+longer n = rw (length-replicate {A = ℕ} (suc n) 0) (omega arith)
+
+pub long_input : (o : Option (List ℕ)) (n : ℕ) (P : List ℕ → Type 0) → ((xs : List ℕ) → n < length xs → P xs) → IfSome o (λ xs. n < length xs) → (input : List ℕ) × IfSome o (λ xs. input ≡ xs) × P input
+long_input None n P h long = (zeros (suc n), tt, h (zeros (suc n)) (longer n))
+long_input (Some xs) n P h long = (xs, refl, h xs long)

@@ -4,7 +4,7 @@ use Rattle.daxrun.proofs.ReadAgain.{transcript_of-text_of}
 use Rattle.daxrun.proofs.runs.transcribe.Goals as goal
 
 pub returns-clause-some : goal.returns-clause-some
-returns-clause-some c = record {
+returns-clause-some g c = record {
   script = c.in-Some.script;
   transcript = c.in_ok-transcript.transcript;
   reads = sym c.in_ok-script.ensures.value ∙ c.in-Some.is;
