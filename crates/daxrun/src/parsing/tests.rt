@@ -2,11 +2,12 @@ use super::*;
 use crate::run_tests::answer_to;
 use dax_script::Status;
 use std::alloc::AllocError;
+use std::sync::Wait;
 use std::test::Fail;
 
 // Whether a run of the text writes a transcript; it refuses every other text later.
-fn is_script(alloc: Global, text: &[u8]) -> Result<bool, Fail> {
-    let (status, taken) = answer_to(alloc, text)?;
+fn is_script<R: Wait>(rt: &R, alloc: Global, text: &[u8]) -> Result<bool, Fail> {
+    let (status, taken) = answer_to(rt, alloc, text)?;
     match status {
         Status::Ok => Ok(true),
         Status::Refused if taken.as_slice() == b"refused later\n".as_slice() => Ok(false),
@@ -121,7 +122,7 @@ fn refuses_other_texts(rt: HostRuntime) -> Result<(), Fail> {
         "ranges 0\nfile a 0\nguest \n",
         "ranges 0\nfile a 0\nguest\nguest\n",
     ] {
-        assert!(rt; !is_script(rt.alloc(), text.as_bytes())?, "{text:?}");
+        assert!(rt; !is_script(&rt, rt.alloc(), text.as_bytes())?, "{text:?}");
     }
     Ok(())
 }
@@ -163,7 +164,7 @@ fn refuses_other_calls(rt: HostRuntime) -> Result<(), Fail> {
         "write a 67108863 0000\n",
     ] {
         let text = guest(rt.alloc(), lines)?;
-        assert!(rt; !is_script(rt.alloc(), text.as_bytes())?, "{lines:?}");
+        assert!(rt; !is_script(&rt, rt.alloc(), text.as_bytes())?, "{lines:?}");
     }
     Ok(())
 }
@@ -181,7 +182,7 @@ fn counts_to_its_limits(rt: HostRuntime) -> Result<(), Fail> {
     ] {
         let text = repeated(alloc, line, times)?;
         assert_eq!(rt;
-            is_script(alloc, text.as_bytes())?,
+            is_script(&rt, alloc, text.as_bytes())?,
             want,
             "{times} times {line:?}"
         );
@@ -195,13 +196,13 @@ fn measures_long_words(rt: HostRuntime) -> Result<(), Fail> {
     for (bytes, want) in [(1048576, true), (1048577, false)] {
         let hex = "5a".repeat(alloc, bytes)?;
         let text = guest(alloc, format!(in alloc; "write a 0 {hex}\n")?.as_str())?;
-        assert_eq!(rt; is_script(alloc, text.as_bytes())?, want, "{bytes} bytes");
+        assert_eq!(rt; is_script(&rt, alloc, text.as_bytes())?, want, "{bytes} bytes");
     }
     for (length, want) in [(1, true), (32, true), (33, false)] {
         let name = "n".repeat(alloc, length)?;
         let text = format!(in alloc; "ranges 0\nfile {name} 1\nguest\nread {name} 0 1\n")?;
         assert_eq!(rt;
-            is_script(alloc, text.as_bytes())?,
+            is_script(&rt, alloc, text.as_bytes())?,
             want,
             "{length} letters"
         );
