@@ -1,21 +1,21 @@
 -- What frames that were answered leave to be said.
 use Rattle.std.proofs.Common.{◌≡◌, ◌∙◌, ap, sym, subst, refl, ℕ, zero, suc, ◌+◌, ◌-◌, ◌≤◌, true, List, [], ◌∷◌, ◌++◌, length, take, drop, min, arith}
 use Rattle.std.proofs.lemmas.List.{drop-append-le, take-append-le, take_min, length-take}
-use Rattle.daxwire.specs.declared.frames.Front.{Front}
-use Rattle.daxwire.specs.declared.frames.Front.TheVariants as fronts
-use Rattle.daxwire.specs.Frames.{Frame, Frames, limit, front, front_at, front_len, frame_of, frames_from, is_decided, onto}
+use Rattle.daxwire.specs.declared.frames.Lead.{Lead}
+use Rattle.daxwire.specs.declared.frames.Lead.TheVariants as leads
+use Rattle.daxwire.specs.Frames.{Frame, Frames, limit, lead, lead_at, lead_len, frame_of, frames_from, is_decided, onto}
 use Rattle.daxwire.specs.Courses.{PendingView, Answers}
 use Rattle.daxwire.proofs.FrameSteps.{frames_step}
-use Rattle.daxwire.proofs.Stable.{front_stable}
+use Rattle.daxwire.proofs.Stable.{lead_stable}
 
-whole_decided : (f : Front) → 1 ≤ front_len f → is_decided f ≡ true
-unfolding front_len is_decided
-whole_decided (fronts.Chain parts readable room) h = refl
-whole_decided (fronts.Load moffset len) h = refl
-whole_decided (fronts.Store moffset len) h = refl
-whole_decided (fronts.Bad reason) h = absurd (omega (arith, h))
-whole_decided fronts.Cut h = absurd (omega (arith, h))
-whole_decided fronts.Nothing h = absurd (omega (arith, h))
+whole_decided : (f : Lead) → 1 ≤ lead_len f → is_decided f ≡ true
+unfolding lead_len is_decided
+whole_decided (leads.Chain parts readable room) h = refl
+whole_decided (leads.Load moffset len) h = refl
+whole_decided (leads.Store moffset len) h = refl
+whole_decided (leads.Bad reason) h = absurd (omega (arith, h))
+whole_decided leads.Cut h = absurd (omega (arith, h))
+whole_decided leads.Nothing h = absurd (omega (arith, h))
 
 -- a front of two lists begins with the same front of the first one
 pub take_of_both : (n : ℕ) (xs ys : List ℕ) → (zs : List ℕ) × (take n (xs ++ ys) ≡ take n xs ++ zs)
@@ -24,28 +24,28 @@ take_of_both (suc n) [] ys = (take (suc n) ys, refl)
 take_of_both (suc n) (x ∷ xs) ys = let r = take_of_both n xs ys in (r.0, ap (λ (l : List ℕ). x ∷ l) r.1)
 
 -- what pending bytes begin with stays, whatever is read behind them
-pub front_at_stable : (at : ℕ) (rest more : List ℕ) → is_decided (front_at at rest) ≡ true → front_at at (rest ++ more) ≡ front_at at rest
-front_at_stable at rest more h =
+pub lead_at_stable : (at : ℕ) (rest more : List ℕ) → is_decided (lead_at at rest) ≡ true → lead_at at (rest ++ more) ≡ lead_at at rest
+lead_at_stable at rest more h =
     let both = take_of_both (limit - at) rest more in
-    ap front both.1 ∙ front_stable (take (limit - at) rest) both.0 h
+    ap lead both.1 ∙ lead_stable (take (limit - at) rest) both.0 h
 
 -- a frame that is answered, and then what follows it
-pub answer_step : (says says' : List Frame → List ℕ) (p : PendingView) (len : ℕ) (text text' : List ℕ) (f : Front) →
-    f ≡ front_at p.at p.rest → len ≡ front_len f → 1 ≤ len → len ≤ length p.rest →
-    ((more : List Frame) → text ++ says (record { front = f; bytes = take len p.rest } ∷ more) ≡ text' ++ says' more) →
+pub answer_step : (says says' : List Frame → List ℕ) (p : PendingView) (len : ℕ) (text text' : List ℕ) (f : Lead) →
+    f ≡ lead_at p.at p.rest → len ≡ lead_len f → 1 ≤ len → len ≤ length p.rest →
+    ((more : List Frame) → text ++ says (record { lead = f; bytes = take len p.rest } ∷ more) ≡ text' ++ says' more) →
     Answers says says' p (record { rest = drop len p.rest; at = p.at + len }) text text'
 answer_step says says' p len text text' f ef el pos le said =
-    let stays : (more : List ℕ) → front_at p.at (p.rest ++ more) ≡ f =
-    λ more. front_at_stable p.at p.rest more (subst (λ (g : Front). is_decided g ≡ true) ef (whole_decided f (subst (λ n. 1 ≤ n) el pos))) ∙ sym ef in
-    let step : (more : List ℕ) → frames_from p.at (p.rest ++ more) ≡ record { whole = record { front = f; bytes = take len p.rest } ∷ (frames_from (p.at + len) (drop len p.rest ++ more)).whole; «end» = (frames_from (p.at + len) (drop len p.rest ++ more)).«end» } =
+    let stays : (more : List ℕ) → lead_at p.at (p.rest ++ more) ≡ f =
+    λ more. lead_at_stable p.at p.rest more (subst (λ (g : Lead). is_decided g ≡ true) ef (whole_decided f (subst (λ n. 1 ≤ n) el pos))) ∙ sym ef in
+    let step : (more : List ℕ) → frames_from p.at (p.rest ++ more) ≡ record { whole = record { lead = f; bytes = take len p.rest } ∷ (frames_from (p.at + len) (drop len p.rest ++ more)).whole; «end» = (frames_from (p.at + len) (drop len p.rest ++ more)).«end» } =
     λ more.
     let all = p.rest ++ more in
-    let whole : 1 ≤ front_len (front_at p.at all) = subst (λ (g : Front). 1 ≤ front_len g) (sym (stays more)) (subst (λ n. 1 ≤ n) el pos) in
+    let whole : 1 ≤ lead_len (lead_at p.at all) = subst (λ (g : Lead). 1 ≤ lead_len g) (sym (stays more)) (subst (λ n. 1 ≤ n) el pos) in
     frames_step p.at all whole
-    ∙ ap (λ (g : Front). onto (frame_of g all) (frames_from (p.at + front_len g) (drop (front_len g) all))) (stays more)
-    ∙ ap (λ n. onto (record { front = f; bytes = take n all }) (frames_from (p.at + n) (drop n all))) (sym el)
-    ∙ ap (λ (b : List ℕ). onto (record { front = f; bytes = b }) (frames_from (p.at + len) (drop len all))) (take-append-le len p.rest more le)
-    ∙ ap (λ (b : List ℕ). onto (record { front = f; bytes = take len p.rest }) (frames_from (p.at + len) b)) (drop-append-le len p.rest more le) in
+    ∙ ap (λ (g : Lead). onto (frame_of g all) (frames_from (p.at + lead_len g) (drop (lead_len g) all))) (stays more)
+    ∙ ap (λ n. onto (record { lead = f; bytes = take n all }) (frames_from (p.at + n) (drop n all))) (sym el)
+    ∙ ap (λ (b : List ℕ). onto (record { lead = f; bytes = b }) (frames_from (p.at + len) (drop len all))) (take-append-le len p.rest more le)
+    ∙ ap (λ (b : List ℕ). onto (record { lead = f; bytes = take len p.rest }) (frames_from (p.at + len) b)) (drop-append-le len p.rest more le) in
     record {
       text_is = λ more. ap (λ (fs : Frames). text ++ says fs.whole) (step more) ∙ said (frames_from (p.at + len) (drop len p.rest ++ more)).whole;
       end_is = λ more. ap (λ (fs : Frames). fs.«end») (step more);
@@ -62,15 +62,15 @@ answers_more says says' says'' p p' p'' text text' text'' a b = record {
 }
 
 -- one turn of answering, by the values that the turn has
-pub answer_turn : (says0 says says' : List Frame → List ℕ) (p0 p q : PendingView) (rest seen bytes : List ℕ) (n len : ℕ) (text0 text text' : List ℕ) (f : Front) →
-    rest ≡ p.rest → n ≡ min (limit - p.at) (length rest) → seen ≡ take n rest → f ≡ front seen → len ≡ front_len f → len ≤ length seen → 1 ≤ len → bytes ≡ take len rest → q ≡ record { rest = drop len p.rest; at = p.at + len } →
-    ((more : List Frame) → text ++ says (record { front = f; bytes = bytes } ∷ more) ≡ text' ++ says' more) →
+pub answer_turn : (says0 says says' : List Frame → List ℕ) (p0 p q : PendingView) (rest seen bytes : List ℕ) (n len : ℕ) (text0 text text' : List ℕ) (f : Lead) →
+    rest ≡ p.rest → n ≡ min (limit - p.at) (length rest) → seen ≡ take n rest → f ≡ lead seen → len ≡ lead_len f → len ≤ length seen → 1 ≤ len → bytes ≡ take len rest → q ≡ record { rest = drop len p.rest; at = p.at + len } →
+    ((more : List Frame) → text ++ says (record { lead = f; bytes = bytes } ∷ more) ≡ text' ++ says' more) →
     Answers says0 says p0 p text0 text → Answers says0 says' p0 q text0 text'
 answer_turn says0 says says' p0 p q rest seen bytes n len text0 text text' f er en es ef el le pos eb eq said before =
-    let begun : f ≡ front_at p.at p.rest =
-    ef ∙ ap front (es ∙ ap (λ k. take k rest) en ∙ take_min (limit - p.at) rest) ∙ ap (front_at p.at) er in
+    let begun : f ≡ lead_at p.at p.rest =
+    ef ∙ ap lead (es ∙ ap (λ k. take k rest) en ∙ take_min (limit - p.at) rest) ∙ ap (lead_at p.at) er in
     let fits : len ≤ length p.rest = omega (arith, le, ap length es, length-take n rest, ap length er) in
-    let framed : (more : List Frame) → text ++ says (record { front = f; bytes = take len p.rest } ∷ more) ≡ text' ++ says' more =
-    subst (λ (b : List ℕ). (more : List Frame) → text ++ says (record { front = f; bytes = b } ∷ more) ≡ text' ++ says' more) (eb ∙ ap (take len) er) said in
+    let framed : (more : List Frame) → text ++ says (record { lead = f; bytes = take len p.rest } ∷ more) ≡ text' ++ says' more =
+    subst (λ (b : List ℕ). (more : List Frame) → text ++ says (record { lead = f; bytes = b } ∷ more) ≡ text' ++ says' more) (eb ∙ ap (take len) er) said in
     subst (λ (v : PendingView). Answers says0 says' p0 v text0 text') (sym eq)
     (answers_more says0 says says' p0 p (record { rest = drop len p.rest; at = p.at + len }) text0 text text' before (answer_step says says' p len text text' f begun el pos fits framed))

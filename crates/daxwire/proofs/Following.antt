@@ -6,12 +6,12 @@ use Rattle.std.proofs.KnownBytes.{Appends-nil}
 use Rattle.std.specs.Io.KnownBytes.{Appends, Consumes, IsAtEnd}
 use Rattle.dax_script.specs.Causes.{AppendsPart}
 use Rattle.dax_script.specs.declared.statuses.Status.{Status}
-use Rattle.daxwire.specs.declared.frames.Front.{Front}
-use Rattle.daxwire.specs.declared.frames.Front.TheVariants as fronts
+use Rattle.daxwire.specs.declared.frames.Lead.{Lead}
+use Rattle.daxwire.specs.declared.frames.Lead.TheVariants as leads
 use Rattle.daxwire.specs.declared.frames.Reason.{Reason}
 use Rattle.daxwire.specs.declared.frames.End.{End}
 use Rattle.daxwire.specs.declared.frames.End.TheVariants as ends
-use Rattle.daxwire.specs.Frames.{Frame, Frames, limit, front_at, front_len, frames_from, is_decided, no_more}
+use Rattle.daxwire.specs.Frames.{Frame, Frames, limit, lead_at, lead_len, frames_from, is_decided, no_more}
 use Rattle.daxwire.specs.Courses.{PendingView, Answers, IsUndecided, Ends, IsCutOff, Writes, course_from, due, is_open, open_end, status_of}
 use Rattle.daxwire.proofs.CourseLaws.{told_before, told_each, ends_last}
 use Rattle.daxwire.proofs.StreamEnds.{frames_bad, frames_long, frames_ended}
@@ -28,24 +28,24 @@ pub told_nothing : (a : Option (List ℕ)) → IsAtEnd a → IfSome a (λ (more 
 told_nothing None h = tt
 told_nothing (Some xs) h = h
 
-open_is_open : (f : Front) (at : ℕ) → is_decided f ≡ false → is_open (open_end f at) ≡ true
+open_is_open : (f : Lead) (at : ℕ) → is_decided f ≡ false → is_open (open_end f at) ≡ true
 unfolding is_decided is_open open_end
-open_is_open (fronts.Chain parts readable room) at h = absurd (true≢false h)
-open_is_open (fronts.Load moffset len) at h = absurd (true≢false h)
-open_is_open (fronts.Store moffset len) at h = absurd (true≢false h)
-open_is_open (fronts.Bad reason) at h = absurd (true≢false h)
-open_is_open fronts.Cut at h = refl
-open_is_open fronts.Nothing at h = refl
+open_is_open (leads.Chain parts readable room) at h = absurd (true≢false h)
+open_is_open (leads.Load moffset len) at h = absurd (true≢false h)
+open_is_open (leads.Store moffset len) at h = absurd (true≢false h)
+open_is_open (leads.Bad reason) at h = absurd (true≢false h)
+open_is_open leads.Cut at h = refl
+open_is_open leads.Nothing at h = refl
 
 -- no whole frame and no malformed one
-pub open_front : (f : Front) → front_len f ≡ 0 → ((r : Reason) → f ≡ fronts.Bad r → ⊥) → is_decided f ≡ false
-unfolding front_len is_decided
-open_front (fronts.Chain parts readable room) h k = absurd (omega (arith, h))
-open_front (fronts.Load moffset len) h k = absurd (omega (arith, h))
-open_front (fronts.Store moffset len) h k = absurd (omega (arith, h))
-open_front (fronts.Bad reason) h k = absurd (k reason refl)
-open_front fronts.Cut h k = refl
-open_front fronts.Nothing h k = refl
+pub open_lead : (f : Lead) → lead_len f ≡ 0 → ((r : Reason) → f ≡ leads.Bad r → ⊥) → is_decided f ≡ false
+unfolding lead_len is_decided
+open_lead (leads.Chain parts readable room) h k = absurd (omega (arith, h))
+open_lead (leads.Load moffset len) h k = absurd (omega (arith, h))
+open_lead (leads.Store moffset len) h k = absurd (omega (arith, h))
+open_lead (leads.Bad reason) h k = absurd (k reason refl)
+open_lead leads.Cut h k = refl
+open_lead leads.Nothing h k = refl
 
 -- the text so far is all of the course's, where no more frames follow
 last_frames : (says0 says : List Frame → List ℕ) (p0 p : PendingView) (text0 text : List ℕ) (e : End) → Answers says0 says p0 p text0 text → text0 ≡ [] → says [] ≡ [] → ((more : List ℕ) → frames_from p.at (p.rest ++ more) ≡ no_more e)
@@ -57,7 +57,7 @@ last_frames says0 says p0 p text0 text e a empty quiet last more = (
 
 -- at a malformed frame
 pub ends_bad : (says0 says : List Frame → List ℕ) (ending : End → List ℕ) (p0 p : PendingView) (text0 text : List ℕ) (left left' taken taken' : Option (List ℕ)) (reads reads' writes writes' : ℕ) (at : ℕ) (r : Reason) (status : Status) →
-    Answers says0 says p0 p text0 text → text0 ≡ [] → says [] ≡ [] → at ≡ p.at → fronts.Bad r ≡ front_at p.at p.rest → Writes (text ++ ending (ends.Malformed r at)) (status_of (ends.Malformed r at)) taken taken' writes writes' status
+    Answers says0 says p0 p text0 text → text0 ≡ [] → says [] ≡ [] → at ≡ p.at → leads.Bad r ≡ lead_at p.at p.rest → Writes (text ++ ending (ends.Malformed r at)) (status_of (ends.Malformed r at)) taken taken' writes writes' status
     → Ends (course_from says0 p0) ending left left' taken taken' reads reads' writes writes' status
 ends_bad says0 says ending p0 p text0 text left left' taken taken' reads reads' writes writes' at r status a empty quiet place bad w =
     let c = course_from says0 p0 in
@@ -67,8 +67,8 @@ ends_bad says0 says ending p0 p text0 text left left' taken taken' reads reads' 
     (λ h. absurd cc) w
 
 -- behind the limit
-pub ends_long : (says0 says : List Frame → List ℕ) (ending : End → List ℕ) (p0 p : PendingView) (text0 text : List ℕ) (left left' taken taken' : Option (List ℕ)) (reads reads' writes writes' : ℕ) (f : Front) (status : Status) →
-    Answers says0 says p0 p text0 text → text0 ≡ [] → says [] ≡ [] → p.at ≤ limit → limit < p.at + length p.rest → f ≡ front_at p.at p.rest → is_decided f ≡ false → Writes (text ++ ending ends.TooLong) (status_of ends.TooLong) taken taken' writes writes' status
+pub ends_long : (says0 says : List Frame → List ℕ) (ending : End → List ℕ) (p0 p : PendingView) (text0 text : List ℕ) (left left' taken taken' : Option (List ℕ)) (reads reads' writes writes' : ℕ) (f : Lead) (status : Status) →
+    Answers says0 says p0 p text0 text → text0 ≡ [] → says [] ≡ [] → p.at ≤ limit → limit < p.at + length p.rest → f ≡ lead_at p.at p.rest → is_decided f ≡ false → Writes (text ++ ending ends.TooLong) (status_of ends.TooLong) taken taken' writes writes' status
     → Ends (course_from says0 p0) ending left left' taken taken' reads reads' writes writes' status
 ends_long says0 says ending p0 p text0 text left left' taken taken' reads reads' writes writes' f status a empty quiet within long begun undecided w =
     let c = course_from says0 p0 in
@@ -91,7 +91,7 @@ no_bytes : (p q : PendingView) (read : List ℕ) → q ≡ record p { rest = p.r
 no_bytes p q read e len = nil_from_length read (grind (arith, common_steps, ap (λ (v : PendingView). length v.rest) e, len))
 
 -- the stream ended
-pub ends_here : (says : List Frame → List ℕ) (ending : End → List ℕ) (p q : PendingView) (f : Front) (text read : List ℕ) (left left' taken taken' : Option (List ℕ)) (reads reads' writes writes' : ℕ) (at : ℕ) (e : End) (status : Status) →
+pub ends_here : (says : List Frame → List ℕ) (ending : End → List ℕ) (p q : PendingView) (f : Lead) (text read : List ℕ) (left left' taken taken' : Option (List ℕ)) (reads reads' writes writes' : ℕ) (at : ℕ) (e : End) (status : Status) →
     IsUndecided p f → says [] ≡ [] → text ≡ [] → q ≡ record p { rest = p.rest ++ read } → Consumes left left' read → length q.rest ≡ length p.rest + 0 → IsAtEnd left' → at ≡ q.at
     → e ≡ open_end f at → Writes (text ++ ending e) (status_of e) taken taken' writes writes' status → Ends (course_from says p) ending left left' taken taken' reads reads' writes writes' status
 ends_here says ending p q f text read left left' taken taken' reads reads' writes writes' at e status u quiet empty more consumed none end place is w =
@@ -106,7 +106,7 @@ ends_here says ending p q f text read left left' taken taken' reads reads' write
     (λ h. end) w
 
 -- the source failed
-pub cut_off : (says : List Frame → List ℕ) (p q : PendingView) (f : Front) (read : List ℕ) (left left' taken : Option (List ℕ)) →
+pub cut_off : (says : List Frame → List ℕ) (p q : PendingView) (f : Lead) (read : List ℕ) (left left' taken : Option (List ℕ)) →
     IsUndecided p f → says [] ≡ [] → q ≡ record p { rest = p.rest ++ read } → Consumes left left' read → q ≡ p → IsCutOff (course_from says p) left left' taken taken
 cut_off says p q f read left left' taken u quiet more consumed same =
     let nothing = no_bytes p q read more (grind (arith, common_steps, ap (λ (v : PendingView). length v.rest) same)) in

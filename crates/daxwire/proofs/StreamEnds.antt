@@ -2,47 +2,47 @@
 use Rattle.std.proofs.Common.{◌≡◌, ◌∙◌, ap, sym, subst, refl, ℕ, ◌+◌, ◌-◌, ◌<◌, ◌≤◌, Bool, true, false, true≢false, List, ◌++◌, length, drop, arith, if◌then◌else◌}
 use Rattle.std.proofs.lemmas.List.{take-append-le}
 use Rattle.std.proofs.lemmas.Grind.{common_steps}
-use Rattle.daxwire.specs.declared.frames.Front.{Front}
-use Rattle.daxwire.specs.declared.frames.Front.TheVariants as fronts
+use Rattle.daxwire.specs.declared.frames.Lead.{Lead}
+use Rattle.daxwire.specs.declared.frames.Lead.TheVariants as leads
 use Rattle.daxwire.specs.declared.frames.Reason.{Reason}
 use Rattle.daxwire.specs.declared.frames.End.TheVariants as ends
-use Rattle.daxwire.specs.Frames.{Frames, limit, front, front_at, front_len, frames_from, frames_within, is_decided, is_longer, cut_at, no_more}
+use Rattle.daxwire.specs.Frames.{Frames, limit, lead, lead_at, lead_len, frames_from, frames_within, is_decided, is_longer, cut_at, no_more}
 use Rattle.daxwire.specs.Courses.{PendingView, IsUndecided, open_end}
-use Rattle.daxwire.proofs.Answering.{front_at_stable}
+use Rattle.daxwire.proofs.Answering.{lead_at_stable}
 
 -- at no frame that could be one, whatever follows
-pub frames_bad : (at : ℕ) (rest more : List ℕ) (r : Reason) → fronts.Bad r ≡ front_at at rest → frames_from at (rest ++ more) ≡ no_more (ends.Malformed r at)
+pub frames_bad : (at : ℕ) (rest more : List ℕ) (r : Reason) → leads.Bad r ≡ lead_at at rest → frames_from at (rest ++ more) ≡ no_more (ends.Malformed r at)
 unfolding frames_from frames_within is_decided
 frames_bad at rest more r e =
     let all = rest ++ more in
-    let len = front_len (front_at at all) in
-    let stays : front_at at all ≡ fronts.Bad r = front_at_stable at rest more (subst (λ (f : Front). is_decided f ≡ true) e refl) ∙ sym e in
-    ap (λ (f : Front). cut_at f (is_longer at all) at all (frames_within (length all) (at + len) (drop len all))) stays
+    let len = lead_len (lead_at at all) in
+    let stays : lead_at at all ≡ leads.Bad r = lead_at_stable at rest more (subst (λ (f : Lead). is_decided f ≡ true) e refl) ∙ sym e in
+    ap (λ (f : Lead). cut_at f (is_longer at all) at all (frames_within (length all) (at + len) (drop len all))) stays
 
-cut_open : (f : Front) (longer : Bool) (at : ℕ) (rest : List ℕ) (more : Frames) → is_decided f ≡ false → cut_at f longer at rest more ≡ no_more (if longer then ends.TooLong else open_end f at)
+cut_open : (f : Lead) (longer : Bool) (at : ℕ) (rest : List ℕ) (more : Frames) → is_decided f ≡ false → cut_at f longer at rest more ≡ no_more (if longer then ends.TooLong else open_end f at)
 unfolding is_decided open_end
-cut_open (fronts.Chain parts readable room) longer at rest more h = absurd (true≢false h)
-cut_open (fronts.Load moffset len) longer at rest more h = absurd (true≢false h)
-cut_open (fronts.Store moffset len) longer at rest more h = absurd (true≢false h)
-cut_open (fronts.Bad reason) longer at rest more h = absurd (true≢false h)
-cut_open fronts.Cut true at rest more h = refl
-cut_open fronts.Cut false at rest more h = refl
-cut_open fronts.Nothing true at rest more h = refl
-cut_open fronts.Nothing false at rest more h = refl
+cut_open (leads.Chain parts readable room) longer at rest more h = absurd (true≢false h)
+cut_open (leads.Load moffset len) longer at rest more h = absurd (true≢false h)
+cut_open (leads.Store moffset len) longer at rest more h = absurd (true≢false h)
+cut_open (leads.Bad reason) longer at rest more h = absurd (true≢false h)
+cut_open leads.Cut true at rest more h = refl
+cut_open leads.Cut false at rest more h = refl
+cut_open leads.Nothing true at rest more h = refl
+cut_open leads.Nothing false at rest more h = refl
 
-frames_open : (at : ℕ) (rest : List ℕ) (f : Front) (longer : Bool) → f ≡ front_at at rest → is_longer at rest ≡ longer → is_decided f ≡ false → frames_from at rest ≡ no_more (if longer then ends.TooLong else open_end f at)
+frames_open : (at : ℕ) (rest : List ℕ) (f : Lead) (longer : Bool) → f ≡ lead_at at rest → is_longer at rest ≡ longer → is_decided f ≡ false → frames_from at rest ≡ no_more (if longer then ends.TooLong else open_end f at)
 unfolding frames_from frames_within
 frames_open at rest f longer e l h =
-    let len = front_len (front_at at rest) in
-    ap (λ (g : Front). cut_at g (is_longer at rest) at rest (frames_within (length rest) (at + len) (drop len rest))) (sym e)
+    let len = lead_len (lead_at at rest) in
+    ap (λ (g : Lead). cut_at g (is_longer at rest) at rest (frames_within (length rest) (at + len) (drop len rest))) (sym e)
     ∙ ap (λ (b : Bool). cut_at f b at rest (frames_within (length rest) (at + len) (drop len rest))) l
     ∙ cut_open f longer at rest (frames_within (length rest) (at + len) (drop len rest)) h
 
 -- behind the limit, whatever follows
-pub frames_long : (at : ℕ) (rest more : List ℕ) (f : Front) → at ≤ limit → limit < at + length rest → f ≡ front_at at rest → is_decided f ≡ false → frames_from at (rest ++ more) ≡ no_more ends.TooLong
+pub frames_long : (at : ℕ) (rest more : List ℕ) (f : Lead) → at ≤ limit → limit < at + length rest → f ≡ lead_at at rest → is_decided f ≡ false → frames_from at (rest ++ more) ≡ no_more ends.TooLong
 frames_long at rest more f within long e h =
-    frames_open at (rest ++ more) f true (e ∙ sym (ap front (take-append-le (limit - at) rest more (omega (arith, within, long))))) (grind (arith, common_steps, long)) h
+    frames_open at (rest ++ more) f true (e ∙ sym (ap lead (take-append-le (limit - at) rest more (omega (arith, within, long))))) (grind (arith, common_steps, long)) h
 
 -- at the end of the input
-pub frames_ended : (p : PendingView) (f : Front) → IsUndecided p f → frames_from p.at p.rest ≡ no_more (open_end f p.at)
-frames_ended p f u = frames_open p.at p.rest f false u.front_is (grind (arith, common_steps, u.within)) u.undecided
+pub frames_ended : (p : PendingView) (f : Lead) → IsUndecided p f → frames_from p.at p.rest ≡ no_more (open_end f p.at)
+frames_ended p f u = frames_open p.at p.rest f false u.lead_is (grind (arith, common_steps, u.within)) u.undecided

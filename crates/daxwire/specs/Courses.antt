@@ -9,9 +9,9 @@ use Rattle.fuse_wire.specs.Records.{u32_at}
 use Rattle.daxwire.specs.declared.frames.End.{End}
 use Rattle.daxwire.specs.declared.frames.End.TheVariants as ends
 use Rattle.daxwire.specs.declared.frames.Reason.TheVariants as reasons
-use Rattle.daxwire.specs.declared.frames.Front.{Front}
-use Rattle.daxwire.specs.declared.frames.Front.TheVariants as fronts
-use Rattle.daxwire.specs.Frames.{Frame, frames, frames_from, front_at, is_decided, limit, header_len}
+use Rattle.daxwire.specs.declared.frames.Lead.{Lead}
+use Rattle.daxwire.specs.declared.frames.Lead.TheVariants as leads
+use Rattle.daxwire.specs.Frames.{Frame, frames, frames_from, lead_at, is_decided, limit, header_len}
 
 -- the most bytes that one read takes
 abbrev pub chunk : ℕ
@@ -73,17 +73,17 @@ pub record Answers (says says' : List Frame → List ℕ) (p p' : PendingView) (
   pub end_is : (more : List ℕ) → (frames_from p.at (p.rest ++ more)).«end» ≡ (frames_from p'.at (p'.rest ++ more)).«end»
 
 -- the end of a stream that ends here, within a frame or not
-unfoldable pub open_end : Front → ℕ → End
-open_end (fronts.Chain parts readable room) at = ends.Ended
-open_end (fronts.Load moffset len) at = ends.Ended
-open_end (fronts.Store moffset len) at = ends.Ended
-open_end (fronts.Bad reason) at = ends.Malformed reason at
-open_end fronts.Cut at = ends.Malformed reasons.Cut at
-open_end fronts.Nothing at = ends.Ended
+unfoldable pub open_end : Lead → ℕ → End
+open_end (leads.Chain parts readable room) at = ends.Ended
+open_end (leads.Load moffset len) at = ends.Ended
+open_end (leads.Store moffset len) at = ends.Ended
+open_end (leads.Bad reason) at = ends.Malformed reason at
+open_end leads.Cut at = ends.Malformed reasons.Cut at
+open_end leads.Nothing at = ends.Ended
 
 -- the pending bytes are a part of a frame or none, within the limit
-pub record IsUndecided (p : PendingView) (f : Front) : Type 0 where
-  pub front_is : f ≡ front_at p.at p.rest
+pub record IsUndecided (p : PendingView) (f : Lead) : Type 0 where
+  pub lead_is : f ≡ lead_at p.at p.rest
   pub undecided : is_decided f ≡ false
   pub within : p.at + length p.rest ≤ limit
 

@@ -11,8 +11,8 @@ use Rattle.page_map.specs.Board.{NamesFiles}
 use Rattle.window_access.specs.Access.{load_refusal, loaded, store_refusal, stored}
 use Rattle.window_access.specs.declared.refusals.WindowRefusal.{WindowRefusal}
 use Rattle.window_access.specs.declared.refusals.WindowRefusal.TheVariants as refusals
-use Rattle.daxwire.specs.declared.frames.Front.{Front}
-use Rattle.daxwire.specs.declared.frames.Front.TheVariants as fronts
+use Rattle.daxwire.specs.declared.frames.Lead.{Lead}
+use Rattle.daxwire.specs.declared.frames.Lead.TheVariants as leads
 use Rattle.daxwire.specs.declared.frames.End.{End}
 use Rattle.daxwire.specs.declared.frames.End.TheVariants as ends
 use Rattle.daxwire.specs.Frames.{Frame, reason_number}
@@ -64,16 +64,16 @@ unfoldable pub store_step : World → ℕ → List ℕ → Step
 store_step w moffset bytes = store_output (store_refusal w.files w.map moffset (length bytes)) w (record w { files = stored w.files w.map moffset bytes })
 
 -- the device after a frame, and the answer to it
-unfoldable pub front_step : World → Front → List ℕ → Step
-front_step w (fronts.Chain parts readable room) bytes = chain_output (device_step w (drop (5 + 4 * parts) bytes) room)
-front_step w (fronts.Load moffset len) bytes = load_step w moffset len
-front_step w (fronts.Store moffset len) bytes = store_step w moffset (drop 13 bytes)
-front_step w (fronts.Bad reason) bytes = (w, [])
-front_step w fronts.Cut bytes = (w, [])
-front_step w fronts.Nothing bytes = (w, [])
+unfoldable pub lead_step : World → Lead → List ℕ → Step
+lead_step w (leads.Chain parts readable room) bytes = chain_output (device_step w (drop (5 + 4 * parts) bytes) room)
+lead_step w (leads.Load moffset len) bytes = load_step w moffset len
+lead_step w (leads.Store moffset len) bytes = store_step w moffset (drop 13 bytes)
+lead_step w (leads.Bad reason) bytes = (w, [])
+lead_step w leads.Cut bytes = (w, [])
+lead_step w leads.Nothing bytes = (w, [])
 
 abbrev pub frame_step : World → Frame → Step
-frame_step w frame = front_step w frame.front frame.bytes
+frame_step w frame = lead_step w frame.lead frame.bytes
 
 -- ---- all frames
 

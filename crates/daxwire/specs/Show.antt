@@ -7,8 +7,8 @@ use Rattle.fuse_codec.specs.Reading.{message_of}
 use Rattle.fuse_text.specs.FieldText.{field, hex_field}
 use Rattle.fuse_text.specs.Lines.{request_line, bad_line}
 use Rattle.std.specs.Fmt.{decimal}
-use Rattle.daxwire.specs.declared.frames.Front.{Front}
-use Rattle.daxwire.specs.declared.frames.Front.TheVariants as fronts
+use Rattle.daxwire.specs.declared.frames.Lead.{Lead}
+use Rattle.daxwire.specs.declared.frames.Lead.TheVariants as leads
 use Rattle.daxwire.specs.declared.frames.End.{End}
 use Rattle.daxwire.specs.declared.frames.End.TheVariants as ends
 use Rattle.daxwire.specs.Frames.{Frame, reason_number}
@@ -19,16 +19,16 @@ chain_line (Ok m) = request_line m
 chain_line (Err bad) = bad_line bad
 
 -- the line of a frame, with its end
-unfoldable pub front_line : Front → List ℕ → List ℕ
-front_line (fronts.Chain parts readable room) bytes = chain_line (message_of (drop (5 + 4 * parts) bytes)) ++ codes "\n"
-front_line (fronts.Load moffset len) bytes = codes "load" ++ field (codes "moffset") moffset ++ field (codes "len") len ++ codes "\n"
-front_line (fronts.Store moffset len) bytes = codes "store" ++ field (codes "moffset") moffset ++ hex_field (codes "bytes") (drop 13 bytes) ++ codes "\n"
-front_line (fronts.Bad reason) bytes = []
-front_line fronts.Cut bytes = []
-front_line fronts.Nothing bytes = []
+unfoldable pub lead_line : Lead → List ℕ → List ℕ
+lead_line (leads.Chain parts readable room) bytes = chain_line (message_of (drop (5 + 4 * parts) bytes)) ++ codes "\n"
+lead_line (leads.Load moffset len) bytes = codes "load" ++ field (codes "moffset") moffset ++ field (codes "len") len ++ codes "\n"
+lead_line (leads.Store moffset len) bytes = codes "store" ++ field (codes "moffset") moffset ++ hex_field (codes "bytes") (drop 13 bytes) ++ codes "\n"
+lead_line (leads.Bad reason) bytes = []
+lead_line leads.Cut bytes = []
+lead_line leads.Nothing bytes = []
 
 abbrev pub frame_line : Frame → List ℕ
-frame_line frame = front_line frame.front frame.bytes
+frame_line frame = lead_line frame.lead frame.bytes
 
 -- the lines of frames that come one after another
 unfoldable pub frame_lines : List Frame → List ℕ

@@ -1,18 +1,18 @@
-use crate::frames::{Front, Reason, begins};
+use crate::frames::{Lead, Reason, begins};
 use crate::run_tests::bytes_of;
 use std::test::Fail;
 
 #[test]
 fn bytes_begin_with_a_frame(rt: HostRuntime) -> Result<(), Fail> {
     let alloc = rt.alloc();
-    for (bytes, front, len) in [
-        ("", Front::Nothing, 0),
-        ("01", Front::Cut, 0),
-        ("04", Front::Bad(Reason::Kind), 0),
-        ("01 0104 0000", Front::Bad(Reason::Bound), 0),
+    for (bytes, lead, len) in [
+        ("", Lead::Nothing, 0),
+        ("01", Lead::Cut, 0),
+        ("04", Lead::Bad(Reason::Kind), 0),
+        ("01 0104 0000", Lead::Bad(Reason::Bound), 0),
         (
             "01 0200 0100 01000000 02000000 50000000 aabbcc dd",
-            Front::Chain {
+            Lead::Chain {
                 parts: 3,
                 readable: 3,
                 room: 80,
@@ -21,7 +21,7 @@ fn bytes_begin_with_a_frame(rt: HostRuntime) -> Result<(), Fail> {
         ),
         (
             "02 0102030405060708 01020000 dd",
-            Front::Load {
+            Lead::Load {
                 moffset: 578_437_695_752_307_201,
                 len: 513,
             },
@@ -29,7 +29,7 @@ fn bytes_begin_with_a_frame(rt: HostRuntime) -> Result<(), Fail> {
         ),
         (
             "03 0001000000000000 02000000 aabb dd",
-            Front::Store {
+            Lead::Store {
                 moffset: 256,
                 len: 2,
             },
@@ -37,7 +37,7 @@ fn bytes_begin_with_a_frame(rt: HostRuntime) -> Result<(), Fail> {
         ),
     ] {
         let got = begins(&bytes_of(alloc, bytes)?);
-        assert_eq!(rt; got, front, "{bytes}");
+        assert_eq!(rt; got, lead, "{bytes}");
         assert_eq!(rt; got.len(), len, "{bytes}");
     }
     Ok(())

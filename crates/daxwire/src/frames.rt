@@ -1,5 +1,5 @@
 ghost use Rattle.std.specs.Prelude.{◌≡◌, ◌≤◌, ◌<◌, ◌+◌, ◌*◌, ◌^◌, ℕ, length, sum};
-ghost use Rattle.daxwire.specs.Frames.{reason_number, lengths_at, chain_with, chain_front, load_front, store_front, front, front_len, IsBounded};
+ghost use Rattle.daxwire.specs.Frames.{reason_number, lengths_at, chain_with, chain_lead, load_lead, store_lead, lead, lead_len, IsBounded};
 
 use fuse_wire::{u16_at, u32_at, u64_at};
 use plain_file::{MAX_PART, MAX_TRANSFER};
@@ -35,7 +35,7 @@ impl Reason {
 
 /// What bytes begin with.
 #[derive(Clone, Copy, Debug, PartialEq, Eq)]
-pub enum Front {
+pub enum Lead {
     /// A whole chain of descriptors.
     Chain {
         /// How many parts it has, readable and writable ones.
@@ -96,120 +96,120 @@ fn sum_at(bytes: &[u8], first: usize, n: usize) -> u64
     total
 }
 
-#[tactic(auto, unfolding(crate::specs::Frames::chain_with, crate::specs::Frames::front_len, crate::specs::Frames::IsBounded))]
-fn chain_with(bytes: &[u8], nr: u16, nw: u16) -> Front
+#[tactic(auto, unfolding(crate::specs::Frames::chain_with, crate::specs::Frames::lead_len, crate::specs::Frames::IsBounded))]
+fn chain_with(bytes: &[u8], nr: u16, nw: u16) -> Lead
     requires { 5 ≤ length bytes.now }
     ensures value { result ≡ chain_with bytes.now nr nw }
-    ensures whole { front_len result ≤ length bytes.now }
+    ensures whole { lead_len result ≤ length bytes.now }
     ensures bounded { IsBounded result }
 {
     if nr > 1024 || nw > 1024 {
-        return Front::Bad(Reason::Bound);
+        return Lead::Bad(Reason::Bound);
     }
     let from = 5 + 4 * (nr as usize + nw as usize);
     if bytes.len() < from {
-        return Front::Cut;
+        return Lead::Cut;
     }
     let readable = sum_at(bytes, 0, nr as usize);
     let room = sum_at(bytes, nr as usize, nw as usize);
     if readable > MAX_PART as u64 || room > MAX_PART as u64 {
-        return Front::Bad(Reason::Bound);
+        return Lead::Bad(Reason::Bound);
     }
     if ((bytes.len() - from) as u64) < readable {
-        return Front::Cut;
+        return Lead::Cut;
     }
-    Front::Chain {
+    Lead::Chain {
         parts: nr as u32 + nw as u32,
         readable,
         room,
     }
 }
 
-#[tactic(auto, unfolding(crate::specs::Frames::chain_front, crate::specs::Frames::front_len, crate::specs::Frames::IsBounded))]
-fn chain_front(bytes: &[u8]) -> Front
-    ensures value { result ≡ chain_front bytes.now }
-    ensures whole { front_len result ≤ length bytes.now }
+#[tactic(auto, unfolding(crate::specs::Frames::chain_lead, crate::specs::Frames::lead_len, crate::specs::Frames::IsBounded))]
+fn chain_lead(bytes: &[u8]) -> Lead
+    ensures value { result ≡ chain_lead bytes.now }
+    ensures whole { lead_len result ≤ length bytes.now }
     ensures bounded { IsBounded result }
 {
     if bytes.len() < 5 {
-        return Front::Cut;
+        return Lead::Cut;
     }
     chain_with(bytes, u16_at(bytes, 1), u16_at(bytes, 3))
 }
 
-#[tactic(auto, unfolding(crate::specs::Frames::load_front, crate::specs::Frames::front_len, crate::specs::Frames::IsBounded))]
-fn load_front(bytes: &[u8]) -> Front
-    ensures value { result ≡ load_front bytes.now }
-    ensures whole { front_len result ≤ length bytes.now }
+#[tactic(auto, unfolding(crate::specs::Frames::load_lead, crate::specs::Frames::lead_len, crate::specs::Frames::IsBounded))]
+fn load_lead(bytes: &[u8]) -> Lead
+    ensures value { result ≡ load_lead bytes.now }
+    ensures whole { lead_len result ≤ length bytes.now }
     ensures bounded { IsBounded result }
 {
     if bytes.len() < 13 {
-        return Front::Cut;
+        return Lead::Cut;
     }
     let len = u32_at(bytes, 9);
     if len > MAX_TRANSFER {
-        return Front::Bad(Reason::Bound);
+        return Lead::Bad(Reason::Bound);
     }
-    Front::Load {
+    Lead::Load {
         moffset: u64_at(bytes, 1),
         len,
     }
 }
 
-#[tactic(auto, unfolding(crate::specs::Frames::store_front, crate::specs::Frames::front_len, crate::specs::Frames::IsBounded))]
-fn store_front(bytes: &[u8]) -> Front
-    ensures value { result ≡ store_front bytes.now }
-    ensures whole { front_len result ≤ length bytes.now }
+#[tactic(auto, unfolding(crate::specs::Frames::store_lead, crate::specs::Frames::lead_len, crate::specs::Frames::IsBounded))]
+fn store_lead(bytes: &[u8]) -> Lead
+    ensures value { result ≡ store_lead bytes.now }
+    ensures whole { lead_len result ≤ length bytes.now }
     ensures bounded { IsBounded result }
 {
     if bytes.len() < 13 {
-        return Front::Cut;
+        return Lead::Cut;
     }
     let len = u32_at(bytes, 9);
     if len > MAX_TRANSFER {
-        return Front::Bad(Reason::Bound);
+        return Lead::Bad(Reason::Bound);
     }
     if bytes.len() - 13 < len as usize {
-        return Front::Cut;
+        return Lead::Cut;
     }
-    Front::Store {
+    Lead::Store {
         moffset: u64_at(bytes, 1),
         len,
     }
 }
 
 /// What the bytes begin with.
-#[tactic(auto, unfolding(crate::specs::Frames::front, crate::specs::Frames::front_len, crate::specs::Frames::IsBounded))]
-pub fn begins(bytes: &[u8]) -> Front
-    ensures value { result ≡ front bytes.now }
-    ensures whole { front_len result ≤ length bytes.now }
+#[tactic(auto, unfolding(crate::specs::Frames::lead, crate::specs::Frames::lead_len, crate::specs::Frames::IsBounded))]
+pub fn begins(bytes: &[u8]) -> Lead
+    ensures value { result ≡ lead bytes.now }
+    ensures whole { lead_len result ≤ length bytes.now }
     ensures bounded { IsBounded result }
 {
     match bytes {
-        [] => Front::Nothing,
-        [1, ..] => chain_front(bytes),
-        [2, ..] => load_front(bytes),
-        [3, ..] => store_front(bytes),
-        _ => Front::Bad(Reason::Kind),
+        [] => Lead::Nothing,
+        [1, ..] => chain_lead(bytes),
+        [2, ..] => load_lead(bytes),
+        [3, ..] => store_lead(bytes),
+        _ => Lead::Bad(Reason::Kind),
     }
 }
 
-impl Front {
+impl Lead {
     /// How many bytes the frame has: 0 where there is no whole frame.
-    #[tactic(auto, unfolding(crate::specs::Frames::front_len, crate::specs::Frames::IsBounded))]
+    #[tactic(auto, unfolding(crate::specs::Frames::lead_len, crate::specs::Frames::IsBounded))]
     pub fn len(&self) -> usize
         requires { IsBounded self.now }
-        ensures { result ≡ front_len self.now }
+        ensures { result ≡ lead_len self.now }
     {
         match self {
-            Front::Chain {
+            Lead::Chain {
                 parts,
                 readable,
                 ..
             } => 5 + 4 * *parts as usize + *readable as usize,
-            Front::Load { .. } => 13,
-            Front::Store { len, .. } => 13 + *len as usize,
-            Front::Bad(_) | Front::Cut | Front::Nothing => 0,
+            Lead::Load { .. } => 13,
+            Lead::Store { len, .. } => 13 + *len as usize,
+            Lead::Bad(_) | Lead::Cut | Lead::Nothing => 0,
         }
     }
 }

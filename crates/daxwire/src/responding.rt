@@ -1,9 +1,9 @@
 ghost use Rattle.std.specs.Prelude.{◌≡◌, Option, ◌≤◌, ◌<◌, ◌+◌, ◌^◌, ◌++◌, ◌∷◌, ℕ, List, [], true, false, length, take, drop, Ok, IfOk, IfErr, OnOk, OnErr};
 ghost use Rattle.plain_file.specs.Counts.{Rose};
-ghost use Rattle.daxwire.specs.Frames.{Frame, front_at, front_len, is_longer, limit, IsBounded};
+ghost use Rattle.daxwire.specs.Frames.{Frame, lead_at, lead_len, is_longer, limit, IsBounded};
 ghost use Rattle.daxwire.specs.Courses.{PendingView, Answers, Ends, IsUndecided, Went, Writes, Took, chunk, course_from, open_end, status_of};
 
-use crate::frames::{End, Front, Reason, begins};
+use crate::frames::{End, Lead, Reason, begins};
 use crate::pendings::{FillError, Pending};
 use dax_script::{Sink, Source, Status, write_all};
 use plain_file::Memory;
@@ -41,19 +41,19 @@ pub trait Responder {
     fn quiet(&self)
         ensures { says self.now [] ≡ [] };
 
-    /// Adds the answer to a whole frame, which is what `front` says, to a text. After `Memory` nothing
+    /// Adds the answer to a whole frame, which is what `lead` says, to a text. After `Memory` nothing
     /// is known of the text.
     fn answer(
         &mut self,
         alloc: Global,
-        front: Front,
+        lead: Lead,
         bytes: &[u8],
         out: &mut Vec<u8>,
     ) -> Result<(), Memory>
-        requires bounded { IsBounded front }
-        requires whole { front_len front ≡ length bytes.now }
+        requires bounded { IsBounded lead }
+        requires whole { lead_len lead ≡ length bytes.now }
         ensures says { OnOk result ((more : List Frame) →
-            out.old.items ++ says self.old (record { front = front; bytes = bytes.now } ∷ more) ≡ out.new.items ++ says self.new more) };
+            out.old.items ++ says self.old (record { lead = lead; bytes = bytes.now } ∷ more) ≡ out.new.items ++ says self.new more) };
 
     /// Adds what is written at the end to a text, whether a frame was answered or none. After `Memory`
     /// nothing is known of the text.
@@ -67,37 +67,37 @@ fn answer_whole<R: Responder>(
     responder: &mut R,
     pending: &mut Pending,
     out: &mut Vec<u8>,
-) -> Result<Front, Memory>
+) -> Result<Lead, Memory>
     requires within { pending.old.at ≤ limit }
     requires small { pending.old.at + length pending.old.rest ≤ limit + chunk }
     ensures answers { OnOk result (Answers (R.says responder.old) (R.says responder.new) pending.old pending.new out.old.items out.new.items) }
-    ensures front { IfOk result (λ f. f ≡ front_at pending.new.at pending.new.rest) }
-    ensures none { IfOk result (λ f. front_len f ≡ 0) }
+    ensures lead { IfOk result (λ f. f ≡ lead_at pending.new.at pending.new.rest) }
+    ensures none { IfOk result (λ f. lead_len f ≡ 0) }
     ensures within { pending.new.at ≤ limit }
     ensures place { pending.new.at + length pending.new.rest ≡ pending.old.at + length pending.old.rest }
 {
     loop {
         let rest = pending.rest();
         let seen = ((LIMIT - pending.at()) as usize).min(rest.len());
-        let front = begins(rest.split_at(seen).0);
-        let len = front.len();
+        let lead = begins(rest.split_at(seen).0);
+        let len = lead.len();
         if len == 0 {
-            return Ok(front);
+            return Ok(lead);
         }
-        responder.answer(alloc, front, rest.split_at(len).0, out)?;
+        responder.answer(alloc, lead, rest.split_at(len).0, out)?;
         pending.advance(len);
     }
 }
 
-impl Front {
-    // The end of a stream that ends at such a front.
+impl Lead {
+    // The end of a stream that ends at such a lead.
     #[tactic(auto, unfolding(crate::specs::Courses::open_end))]
     fn open_end(self, at: u64) -> End
         ensures { result ≡ open_end self at }
     {
         match self {
-            Front::Bad(reason) => End::Malformed { reason, at },
-            Front::Cut => End::Malformed {
+            Lead::Bad(reason) => End::Malformed { reason, at },
+            Lead::Cut => End::Malformed {
                 reason: Reason::Cut,
                 at,
             },
@@ -108,7 +108,7 @@ impl Front {
 
 /// Writes a text and what is due at the end, and tells the status of that end, or a failure.
 #[tactic(auto, unfolding(crate::specs::Courses::status_of))]
-pub fn finish<R: Responder, K: Sink>(end: End, out: &mut Vec<u8>, sink: &mut K) -> Status
+pub fn end_stream<R: Responder, K: Sink>(end: End, out: &mut Vec<u8>, sink: &mut K) -> Status
     ensures writes { Writes (out.old.items ++ R.ending end) (status_of end) (K.taken sink.old) (K.taken sink.new) (K.faults sink.old) (K.faults sink.new) result }
     ensures later { K.faults sink.old ≤ K.faults sink.new }
 {
@@ -127,14 +127,14 @@ pub fn finish<R: Responder, K: Sink>(end: End, out: &mut Vec<u8>, sink: &mut K) 
 
 // Answers and writes all whole frames of the pending bytes. The stream goes on then, or it ended with a
 // status: at a malformed frame, behind the limit, or with a failure.
-#[tactic(auto, unfolding(crate::specs::Frames::front_len, crate::specs::Frames::is_decided))]
+#[tactic(auto, unfolding(crate::specs::Frames::lead_len, crate::specs::Frames::is_decided))]
 fn flush<R: Responder, K: Sink>(
     alloc: Global,
     responder: &mut R,
     pending: &mut Pending,
     out: &mut Vec<u8>,
     sink: &mut K,
-) -> Result<Front, Status>
+) -> Result<Lead, Status>
     requires within { pending.old.at ≤ limit }
     requires small { pending.old.at + length pending.old.rest ≤ limit + chunk }
     requires empty { out.old.items ≡ [] }
@@ -145,21 +145,21 @@ fn flush<R: Responder, K: Sink>(
     ensures place { pending.new.at + length pending.new.rest ≡ pending.old.at + length pending.old.rest }
     ensures later { K.faults sink.old ≤ K.faults sink.new }
 {
-    let Ok(front) = answer_whole(alloc, responder, pending, out) else {
+    let Ok(lead) = answer_whole(alloc, responder, pending, out) else {
         return Err(Status::Memory);
     };
     responder.quiet();
     let at = pending.at();
-    if let Front::Bad(reason) = front {
-        return Err(finish::<R, K>(End::Malformed { reason, at }, out, sink));
+    if let Lead::Bad(reason) = lead {
+        return Err(end_stream::<R, K>(End::Malformed { reason, at }, out, sink));
     }
     if at + pending.rest().len() as u64 > LIMIT {
-        return Err(finish::<R, K>(End::TooLong, out, sink));
+        return Err(end_stream::<R, K>(End::TooLong, out, sink));
     }
     match write_all(sink, out) {
         Ok(()) => {
             out.clear();
-            Ok(front)
+            Ok(lead)
         }
         Err(_) => Err(Status::WriteFault),
     }
@@ -169,13 +169,13 @@ fn flush<R: Responder, K: Sink>(
 // with a status: at its end, or with a failure.
 fn read_on<R: Responder, S: Source, K: Sink>(
     responder: &R,
-    front: Front,
+    lead: Lead,
     pending: &mut Pending,
     out: &mut Vec<u8>,
     source: &mut S,
     sink: &mut K,
 ) -> Result<(), Status>
-    requires undecided { IsUndecided pending.old front }
+    requires undecided { IsUndecided pending.old lead }
     requires empty { out.old.items ≡ [] }
     ensures went { OnOk result (Went (course_from (R.says responder.now) pending.old) (course_from (R.says responder.now) pending.new) (S.left source.old) (S.left source.new) (K.taken sink.old) (K.taken sink.new)) }
     ensures more { OnOk result (length pending.old.rest < length pending.new.rest) }
@@ -188,7 +188,7 @@ fn read_on<R: Responder, S: Source, K: Sink>(
 {
     responder.quiet();
     match pending.fill(source) {
-        Ok(0) => Err(finish::<R, K>(front.open_end(pending.at()), out, sink)),
+        Ok(0) => Err(end_stream::<R, K>(lead.open_end(pending.at()), out, sink)),
         Ok(_) => Ok(()),
         Err(FillError::Memory) => Err(Status::Memory),
         Err(FillError::Failed) => Err(Status::ReadFault),
@@ -217,7 +217,7 @@ fn turn<R: Responder, S: Source, K: Sink>(
     ensures later_writes { K.faults sink.old ≤ K.faults sink.new }
 {
     match flush(alloc, responder, pending, out, sink) {
-        Ok(front) => read_on(responder, front, pending, out, source, sink),
+        Ok(lead) => read_on(responder, lead, pending, out, source, sink),
         Err(status) => Err(status),
     }
 }

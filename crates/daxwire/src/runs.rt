@@ -15,7 +15,7 @@ use crate::devices::Device;
 use crate::frames::{End, Reason};
 use crate::headers::read_header;
 use crate::pendings::{FillError, Pending};
-use crate::responding::{Responder, finish, respond};
+use crate::responding::{Responder, end_stream, respond};
 use crate::rings::ring;
 use crate::shows::Show;
 use dax_script::{Sink, Source, Status, Word, write_all};
@@ -101,7 +101,7 @@ fn answer_stream<R: Responder + Drop, S: Source, K: Sink>(
             Ok(mut responder) => respond(alloc, &mut responder, &mut pending, source, sink),
             Err(Memory) => Status::Memory,
         },
-        Ok(None) => finish::<R, K>(
+        Ok(None) => end_stream::<R, K>(
             End::Malformed {
                 reason: Reason::Header,
                 at: 0,

@@ -1,11 +1,11 @@
 ghost use Rattle.std.specs.Prelude.{◌≡◌, ◌≤◌, ◌++◌, ◌∷◌, [], length, IfOk, OnOk};
 ghost use Rattle.plain_file.specs.Limits.{max_part, max_transfer};
 ghost use Rattle.fuse_device.specs.Steps.{device_step};
-ghost use Rattle.daxwire.specs.Frames.{front_len, IsBounded};
-ghost use Rattle.daxwire.specs.Serve.{Makes, chain_output, fault_output, first_world, front_step, load_step, refusal_number, store_step};
+ghost use Rattle.daxwire.specs.Frames.{lead_len, IsBounded};
+ghost use Rattle.daxwire.specs.Serve.{Makes, chain_output, fault_output, first_world, lead_step, load_step, refusal_number, store_step};
 
 use crate::devices::Device;
-use crate::frames::{End, Front};
+use crate::frames::{End, Lead};
 use crate::responding::Responder;
 use plain_file::Memory;
 use std::alloc::Global;
@@ -83,31 +83,31 @@ impl Device {
     }
 
     // Adds the answer to a whole frame.
-    #[tactic(auto, unfolding(crate::specs::Serve::front_step, crate::specs::Frames::front_len, crate::specs::Frames::IsBounded))]
+    #[tactic(auto, unfolding(crate::specs::Serve::lead_step, crate::specs::Frames::lead_len, crate::specs::Frames::IsBounded))]
     fn put_frame(
         &mut self,
         alloc: Global,
-        front: Front,
+        lead: Lead,
         bytes: &[u8],
         out: &mut Vec<u8>,
     ) -> Result<(), Memory>
-        requires bounded { IsBounded front }
-        requires whole { front_len front ≡ length bytes.now }
-        ensures { OnOk result (Makes (front_step self.old front bytes.now) out.old.items self.new out.new.items) }
+        requires bounded { IsBounded lead }
+        requires whole { lead_len lead ≡ length bytes.now }
+        ensures { OnOk result (Makes (lead_step self.old lead bytes.now) out.old.items self.new out.new.items) }
     {
-        match front {
-            Front::Chain { parts, room, .. } => {
+        match lead {
+            Lead::Chain { parts, room, .. } => {
                 let readable = bytes.split_at(5 + 4 * parts as usize).1;
                 self.put_chain(alloc, readable, room as u32, out)
             }
-            Front::Load { moffset, len } => self.put_load(alloc, moffset, len, out),
-            Front::Store { moffset, .. } => self.put_store(
+            Lead::Load { moffset, len } => self.put_load(alloc, moffset, len, out),
+            Lead::Store { moffset, .. } => self.put_store(
                 alloc,
                 moffset,
                 bytes.split_at(13).1,
                 out,
             ),
-            Front::Bad(_) | Front::Cut | Front::Nothing => Ok(()),
+            Lead::Bad(_) | Lead::Cut | Lead::Nothing => Ok(()),
         }
     }
 }
@@ -149,11 +149,11 @@ impl Responder for Device {
     fn answer(
         &mut self,
         alloc: Global,
-        front: Front,
+        lead: Lead,
         bytes: &[u8],
         out: &mut Vec<u8>,
     ) -> Result<(), Memory> {
-        self.put_frame(alloc, front, bytes, out)
+        self.put_frame(alloc, lead, bytes, out)
     }
 
     #[tactic(auto, unfolding(crate::specs::Serve::fault_output))]

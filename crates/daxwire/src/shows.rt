@@ -1,11 +1,11 @@
 ghost use Rattle.std.specs.Prelude.{◌≡◌, ◌≤◌, ◌++◌, length, OnOk};
 ghost use Rattle.std.specs.Fmt.{decimal};
 ghost use Rattle.plain_file.specs.Limits.{max_part};
-ghost use Rattle.daxwire.specs.Frames.{front_len, IsBounded};
-ghost use Rattle.daxwire.specs.Show.{chain_line, front_line, end_line};
+ghost use Rattle.daxwire.specs.Frames.{lead_len, IsBounded};
+ghost use Rattle.daxwire.specs.Show.{chain_line, lead_line, end_line};
 ghost use Rattle.fuse_codec.specs.Reading.{message_of};
 
-use crate::frames::{End, Front};
+use crate::frames::{End, Lead};
 use crate::responding::Responder;
 use fuse_codec::{BadRequest, decode_request};
 use fuse_text::{put_bad_line, put_field, put_hex_field, put_line};
@@ -40,11 +40,11 @@ impl Responder for Show {
     fn answer(
         &mut self,
         alloc: Global,
-        front: Front,
+        lead: Lead,
         bytes: &[u8],
         out: &mut Vec<u8>,
     ) -> Result<(), Memory> {
-        put_frame(alloc, front, bytes, out)
+        put_frame(alloc, lead, bytes, out)
     }
 
     #[tactic(auto, unfolding(crate::specs::Show::end_line))]
@@ -65,33 +65,33 @@ impl Responder for Show {
 }
 
 // Adds the line of a whole frame.
-#[tactic(auto, unfolding(crate::specs::Show::front_line, crate::specs::Frames::front_len, crate::specs::Frames::IsBounded))]
-fn put_frame(alloc: Global, front: Front, bytes: &[u8], out: &mut Vec<u8>) -> Result<(), Memory>
-    requires bounded { IsBounded front }
-    requires whole { front_len front ≡ length bytes.now }
-    ensures { OnOk result (out.new.items ≡ out.old.items ++ front_line front bytes.now) }
+#[tactic(auto, unfolding(crate::specs::Show::lead_line, crate::specs::Frames::lead_len, crate::specs::Frames::IsBounded))]
+fn put_frame(alloc: Global, lead: Lead, bytes: &[u8], out: &mut Vec<u8>) -> Result<(), Memory>
+    requires bounded { IsBounded lead }
+    requires whole { lead_len lead ≡ length bytes.now }
+    ensures { OnOk result (out.new.items ≡ out.old.items ++ lead_line lead bytes.now) }
 {
-    match front {
-        Front::Chain { parts, .. } => {
+    match lead {
+        Lead::Chain { parts, .. } => {
             put_chain(alloc, bytes.split_at(5 + 4 * parts as usize).1, out)?;
             put(out, b"\n")?;
             Ok(())
         }
-        Front::Load { moffset, len } => {
+        Lead::Load { moffset, len } => {
             put(out, b"load")?;
             put_field(out, "moffset", moffset)?;
             put_field(out, "len", u64::from(len))?;
             put(out, b"\n")?;
             Ok(())
         }
-        Front::Store { moffset, .. } => {
+        Lead::Store { moffset, .. } => {
             put(out, b"store")?;
             put_field(out, "moffset", moffset)?;
             put_hex_field(out, "bytes", bytes.split_at(13).1)?;
             put(out, b"\n")?;
             Ok(())
         }
-        Front::Bad(_) | Front::Cut | Front::Nothing => Ok(()),
+        Lead::Bad(_) | Lead::Cut | Lead::Nothing => Ok(()),
     }
 }
 

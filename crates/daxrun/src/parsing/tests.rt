@@ -196,7 +196,11 @@ fn measures_long_words(rt: HostRuntime) -> Result<(), Fail> {
     for (bytes, want) in [(1048576, true), (1048577, false)] {
         let hex = "5a".repeat(alloc, bytes)?;
         let text = guest(alloc, format!(in alloc; "write a 0 {hex}\n")?.as_str())?;
-        assert_eq!(rt; is_script(&rt, alloc, text.as_bytes())?, want, "{bytes} bytes");
+        assert_eq!(rt;
+            is_script(&rt, alloc, text.as_bytes())?,
+            want,
+            "{bytes} bytes"
+        );
     }
     for (length, want) in [(1, true), (32, true), (33, false)] {
         let name = "n".repeat(alloc, length)?;

@@ -1,13 +1,13 @@
 use Rattle.std.proofs.Common.{arith, sym, ap, ◌∙◌, length, subst}
 use Rattle.dax_script.specs.Causes.{AppendsPart}
-use Rattle.daxwire.proofs.Following.{ends_bad, ends_long, part_of_due, open_front}
+use Rattle.daxwire.proofs.Following.{ends_bad, ends_long, part_of_due, open_lead}
 use Rattle.daxwire.proofs.responding.flush.Goals as goal
 
 pub returns-in-Bad-clause-ends : goal.returns-in-Bad-clause-ends
 returns-in-Bad-clause-ends g c = λ left left' reads reads'.
     let says = g.R.Responder.says in
-    ends_bad (says c.args.responder.now) (says c.answer_whole.new.responder) g.R.Responder.ending c.args.pending.now c.answer_whole.new.pending c.args.out.now.items c.answer_whole.new.out.items left left' (g.K.Sink.taken c.args.sink.now) (g.K.Sink.taken c.finish.new.sink) reads reads' (g.K.Sink.faults c.args.sink.now) (g.K.Sink.faults c.finish.new.sink) c.at-at.result c.in-Bad.reason c.finish.result
-    c.in-Ok.ensures.answers c.requires.empty c.quiet.ensures c.at-at.ensures (sym c.in-Bad.is ∙ c.in-Ok.ensures.front) c.finish.ensures.writes
+    ends_bad (says c.args.responder.now) (says c.answer_whole.new.responder) g.R.Responder.ending c.args.pending.now c.answer_whole.new.pending c.args.out.now.items c.answer_whole.new.out.items left left' (g.K.Sink.taken c.args.sink.now) (g.K.Sink.taken c.end_stream.new.sink) reads reads' (g.K.Sink.faults c.args.sink.now) (g.K.Sink.faults c.end_stream.new.sink) c.at-at.result c.in-Bad.reason c.end_stream.result
+    c.in-Ok.ensures.answers c.requires.empty c.quiet.ensures c.at-at.ensures (sym c.in-Bad.is ∙ c.in-Ok.ensures.lead) c.end_stream.ensures.writes
 
 pub returns-then-at-rest-gt-LIMIT : goal.returns-then-at-rest-gt-LIMIT
 returns-then-at-rest-gt-LIMIT g c =
@@ -17,10 +17,10 @@ returns-then-at-rest-gt-LIMIT g c =
       undecided = tt;
       empty = tt;
       ends = λ left left' reads reads'.
-          ends_long (says c.args.responder.now) (says c.answer_whole.new.responder) g.R.Responder.ending c.args.pending.now c.answer_whole.new.pending c.args.out.now.items c.answer_whole.new.out.items left left' (g.K.Sink.taken c.args.sink.now) (g.K.Sink.taken c.finish-then-at-rest-gt-LIMIT.new.sink) reads reads' (g.K.Sink.faults c.args.sink.now) (g.K.Sink.faults c.finish-then-at-rest-gt-LIMIT.new.sink) c.in-Ok.front c.finish-then-at-rest-gt-LIMIT.result
-          c.in-Ok.ensures.answers c.requires.empty c.quiet.ensures c.answer_whole.ensures.within (omega (arith, c.if-at-rest-gt-LIMIT.true, c.at-at.ensures, ap length c.rest.ensures)) c.in-Ok.ensures.front (open_front c.in-Ok.front c.in-Ok.ensures.none c.in_default-front.not-Bad) c.finish-then-at-rest-gt-LIMIT.ensures.writes;
+          ends_long (says c.args.responder.now) (says c.answer_whole.new.responder) g.R.Responder.ending c.args.pending.now c.answer_whole.new.pending c.args.out.now.items c.answer_whole.new.out.items left left' (g.K.Sink.taken c.args.sink.now) (g.K.Sink.taken c.end_stream-then-at-rest-gt-LIMIT.new.sink) reads reads' (g.K.Sink.faults c.args.sink.now) (g.K.Sink.faults c.end_stream-then-at-rest-gt-LIMIT.new.sink) c.in-Ok.lead c.end_stream-then-at-rest-gt-LIMIT.result
+          c.in-Ok.ensures.answers c.requires.empty c.quiet.ensures c.answer_whole.ensures.within (omega (arith, c.if-at-rest-gt-LIMIT.true, c.at-at.ensures, ap length c.rest.ensures)) c.in-Ok.ensures.lead (open_lead c.in-Ok.lead c.in-Ok.ensures.none c.in_default-lead.not-Bad) c.end_stream-then-at-rest-gt-LIMIT.ensures.writes;
       place = c.answer_whole.ensures.place;
-      later = c.finish-then-at-rest-gt-LIMIT.ensures.later;
+      later = c.end_stream-then-at-rest-gt-LIMIT.ensures.later;
     }
 
 pub returns-in-Err : goal.returns-in-Err

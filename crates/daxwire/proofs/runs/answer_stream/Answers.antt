@@ -41,9 +41,9 @@ returns-in-Ok-None-clause-ends g c =
     let writes = g.K.Sink.faults in
     let ending = g.R.Responder.ending in
     let e = ends.Malformed reasons.Header 0 in
-    ends_last (course_by g.R.Responder.starting) ending (left c.args.source.now) (left c.read_header.new.source) (taken c.args.sink.now) (taken c.finish.new.sink) (reads c.args.source.now) (reads c.read_header.new.source) (writes c.args.sink.now) (writes c.finish.new.sink) e [] c.finish.result
+    ends_last (course_by g.R.Responder.starting) ending (left c.args.source.now) (left c.read_header.new.source) (taken c.args.sink.now) (taken c.end_stream.new.sink) (reads c.args.source.now) (reads c.read_header.new.source) (writes c.args.sink.now) (writes c.end_stream.new.sink) e [] c.end_stream.result
     (unheaded_last g.R.Responder.starting (left c.args.source.now) (left c.read_header.new.source) c.quiet_at_start.ensures (c.in-Ok-None.ensures.unheaded c.in-Ok-None.field-0-is)) (λ h. absurd cc)
-    (subst (λ (text : List ℕ). Writes (text ++ ending e) (status_of e) (taken c.args.sink.now) (taken c.finish.new.sink) (writes c.args.sink.now) (writes c.finish.new.sink) c.finish.result) c.new.ensures.items c.finish.ensures.writes)
+    (subst (λ (text : List ℕ). Writes (text ++ ending e) (status_of e) (taken c.args.sink.now) (taken c.end_stream.new.sink) (writes c.args.sink.now) (writes c.end_stream.new.sink) c.end_stream.result) c.new.ensures.items c.end_stream.ensures.writes)
 
 pub returns-clause-ends : goal.returns-clause-ends
 returns-clause-ends g c =
