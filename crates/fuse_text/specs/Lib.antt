@@ -1,4 +1,3 @@
 pub mod FieldText
-pub mod Fronts
 pub mod Lines
 pub mod RecordText

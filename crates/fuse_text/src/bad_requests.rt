@@ -2,12 +2,13 @@
 
 ghost use Rattle.std.specs.Prelude.{◌≡◌, ◌≢◌, ◌++◌, OnOk, IfOk};
 ghost use Rattle.fuse_codec.specs.declared.errors.BadRequest.TheVariants as bad_requests;
-ghost use Rattle.fuse_text.specs.Fronts.{Begins};
+ghost use Rattle.plain_text.specs.Fronts.{Begins};
 ghost use Rattle.fuse_text.specs.Lines.{bad_line};
 
-use crate::fields::{put, put_field};
+use crate::fields::put_field;
 use fuse_codec::BadRequest;
 use plain_file::{Blob, List, Memory};
+use plain_text::put;
 use std::alloc::Global;
 
 /// The line of a bad request: `bad short`, `bad length said=S had=H`, `bad extended n=N`,

@@ -2,13 +2,11 @@
 
 ghost use Rattle.std.specs.Prelude.{◌≡◌, ◌++◌, OnOk};
 ghost use Rattle.std.specs.List.{flat_map};
-ghost use Rattle.std.specs.Fmt.{decimal, signed_decimal};
-ghost use Rattle.hex.specs.Hex.{encode_lower};
 ghost use Rattle.fuse_text.specs.FieldText.{field, hex_field};
-ghost use Rattle.fuse_text.specs.Fronts.{Begins};
+ghost use Rattle.plain_text.specs.Fronts.{Begins};
 
-use itoa::Buffer;
 use plain_file::Memory;
+use plain_text::{put, put_hex, put_number};
 
 // The fields of a record under their own names, in the order in which they stand here.
 macro_rules! put_fields {
@@ -60,45 +58,5 @@ pub(crate) fn put_pairs(out: &mut Vec<u8>, pairs: &[(&str, u64)]) -> Result<(), 
     for (name, value) in pairs {
         put_field(out, name, *value)?;
     }
-    Ok(())
-}
-
-/// Appends bytes as they are.
-pub(crate) fn put(out: &mut Vec<u8>, bytes: &[u8]) -> Result<(), Memory>
-    ensures text { OnOk result (out.new.items ≡ out.old.items ++ bytes.now) }
-    ensures front { Begins out.old.items out.new.items }
-{
-    out.extend_from_slice(bytes)?;
-    Ok(())
-}
-
-/// Appends a signed number, in decimal.
-pub(crate) fn put_signed(out: &mut Vec<u8>, n: i32) -> Result<(), Memory>
-    ensures text { OnOk result (out.new.items ≡ out.old.items ++ signed_decimal n) }
-    ensures front { Begins out.old.items out.new.items }
-{
-    let mut buffer = Buffer::new();
-    put(out, buffer.format(n).as_bytes())
-}
-
-fn put_number(out: &mut Vec<u8>, n: u64) -> Result<(), Memory>
-    ensures text { OnOk result (out.new.items ≡ out.old.items ++ decimal n) }
-    ensures front { Begins out.old.items out.new.items }
-{
-    let mut buffer = Buffer::new();
-    put(out, buffer.format(n).as_bytes())
-}
-
-// The digits go into the buffer's own new room, however many they are.
-fn put_hex(out: &mut Vec<u8>, bytes: &[u8]) -> Result<(), Memory>
-    ensures text { OnOk result (out.new.items ≡ out.old.items ++ encode_lower bytes.now) }
-    ensures front { Begins out.old.items out.new.items }
-{
-    let start = out.len();
-    let Some(end) = start.checked_add(2 * bytes.len()) else {
-        return Err(Memory);
-    };
-    out.resize(end, 0)?;
-    hex::encode_to_slice(bytes, &mut out.as_mut_slice()[start..]).unwrap();
     Ok(())
 }

@@ -5,8 +5,9 @@
 //! uses again; the calls named `line_of` make a new one.
 //!
 //! What each line is stands in `specs/`: `FieldText` (one field, and the fields of a layout),
-//! `RecordText` (the names of each record's fields), `Lines` (the three kinds of lines). `Fronts` says
-//! what is left of a buffer where an allocation was refused.
+//! `RecordText` (the names of each record's fields), `Lines` (the three kinds of lines). What is left of
+//! a buffer where an allocation was refused says `Fronts` of `plain_text`, whose calls write the words,
+//! numbers and digits.
 #![tactic(auto)]
 
 mod bad_requests;

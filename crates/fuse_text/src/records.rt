@@ -1,7 +1,7 @@
 //! The fields of each record, each field's name once.
 
 ghost use Rattle.std.specs.Prelude.{◌≡◌, ◌++◌, OnOk};
-ghost use Rattle.fuse_text.specs.Fronts.{Begins};
+ghost use Rattle.plain_text.specs.Fronts.{Begins};
 ghost use Rattle.fuse_text.specs.RecordText.{getattr_in_text, setattr_in_text, open_in_text, read_in_text, write_in_text, release_in_text, fsync_in_text, flush_in_text, init_in_text, create_in_text, forget_one_text, fallocate_in_text, setup_in_text, remove_one_text, attr_rec_text, attr_out_text, entry_out_text, open_out_text, write_out_text, init_out_text};
 
 use crate::fields::{put_field, put_fields};

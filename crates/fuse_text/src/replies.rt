@@ -1,13 +1,14 @@
 //! The lines of replies.
 
 ghost use Rattle.std.specs.Prelude.{◌≡◌, ◌++◌, OnOk, IfOk};
-ghost use Rattle.fuse_text.specs.Fronts.{Begins};
+ghost use Rattle.plain_text.specs.Fronts.{Begins};
 ghost use Rattle.fuse_text.specs.Lines.{outcome_text, reply_text, reply_line};
 
-use crate::fields::{put, put_field, put_hex_field, put_signed};
+use crate::fields::{put_field, put_hex_field};
 use crate::records::{put_attr_out, put_entry_out, put_init_out, put_open_out, put_write_out};
 use fuse_codec::Reply;
 use plain_file::{Blob, List, Memory};
+use plain_text::{put, put_signed};
 use std::alloc::Global;
 
 /// The line of a reply to the request with the number `unique`: `error=E unique=U` with the error's

@@ -2,12 +2,12 @@
 
 ghost use Rattle.std.specs.Prelude.{◌≡◌, ◌++◌, codes, OnOk, IfOk};
 ghost use Rattle.std.specs.List.{flat_map};
-ghost use Rattle.fuse_text.specs.Fronts.{Begins};
+ghost use Rattle.plain_text.specs.Fronts.{Begins};
 ghost use Rattle.fuse_text.specs.FieldText.{field};
 ghost use Rattle.fuse_text.specs.RecordText.{forget_one_text, remove_one_text};
 ghost use Rattle.fuse_text.specs.Lines.{body_text, request_line};
 
-use crate::fields::{put, put_field, put_hex_field};
+use crate::fields::{put_field, put_hex_field};
 use crate::records::{
     put_create_in, put_fallocate_in, put_flush_in, put_forget_one, put_fsync_in, put_getattr_in,
     put_init_in, put_open_in, put_read_in, put_release_in, put_remove_one, put_setattr_in,
@@ -16,6 +16,7 @@ use crate::records::{
 use fuse_codec::{Message, Request};
 use fuse_wire::{ForgetOne, RemoveOne};
 use plain_file::{Blob, List, Memory};
+use plain_text::put;
 use std::alloc::Global;
 
 /// The line of a request: its operation's [`text`](fuse_codec::Opcode::text), ` unique=` and ` node=`

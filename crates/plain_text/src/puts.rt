@@ -1,6 +1,6 @@
-ghost use Rattle.std.specs.Prelude.{◌≡◌, ◌++◌, OnOk};
+ghost use Rattle.std.specs.Prelude.{◌≡◌, ◌++◌, ◌*◌, ◌<◌, OnOk, length, slice_index};
 ghost use Rattle.std.specs.Fmt.{decimal, signed_decimal};
-ghost use Rattle.hex.specs.Hex.{encode_lower};
+ghost use Rattle.hex.specs.Hex.{encode_lower, lower_digits};
 ghost use Rattle.plain_text.specs.Fronts.{Begins};
 
 use itoa::Buffer;
@@ -19,10 +19,15 @@ pub fn put(out: &mut Vec<u8>, bytes: &[u8]) -> Result<(), Memory>
 }
 
 /// Appends a number, in decimal.
+#[tactic(auto, using(std::proofs::lemmas::Fmt::decimal_digit))]
 pub fn put_number(out: &mut Vec<u8>, n: u64) -> Result<(), Memory>
     ensures text { OnOk result (out.new.items ≡ out.old.items ++ decimal n) }
     ensures front { Begins out.old.items out.new.items }
 {
+    if n < 10 {
+        out.push(b'0' + n as u8)?;
+        return Ok(());
+    }
     let mut buffer = Buffer::new();
     put(out, buffer.format(n).as_bytes())
 }
@@ -47,6 +52,26 @@ pub fn put_hex(out: &mut Vec<u8>, bytes: &[u8]) -> Result<(), Memory>
         return Err(Memory);
     };
     out.resize(end, 0)?;
-    hex::encode_to_slice(bytes, &mut out.as_mut_slice()[start..]).unwrap();
+    write_hex(&mut out.as_mut_slice()[start..], bytes);
     Ok(())
+}
+
+// Sums and no table, so that the compiler makes a loop over several bytes at once of it.
+fn write_hex(text: &mut [u8], bytes: &[u8])
+    requires { length text.old ≡ 2 * length bytes.now }
+    ensures { text.new ≡ encode_lower bytes.now }
+{
+    for i in 0..bytes.len() {
+        let byte = bytes[i];
+        text[2 * i] = hex_digit(byte >> 4);
+        text[2 * i + 1] = hex_digit(byte & 15);
+    }
+}
+
+fn hex_digit(n: u8) -> u8
+    requires { n < 16 }
+    ensures { result ≡ slice_index lower_digits n }
+{
+    let to_letters = if n > 9 { b'a' - b'0' - 10 } else { 0 };
+    n + b'0' + to_letters
 }

@@ -1,7 +1,7 @@
 use Rattle.std.proofs.Common.{◌≡◌, ◌++◌, take}
 use Rattle.std.specs.List.{flat_map}
 use Rattle.fuse_text.specs.FieldText.{field}
-use Rattle.fuse_text.specs.Fronts.{Begins}
+use Rattle.plain_text.specs.Fronts.{Begins}
 use Rattle.fuse_text.proofs.fields.put_pairs.Given as goal
 
 abbrev pub invariant-loop-name : goal.invariant-loop-name

@@ -1,6 +1,6 @@
 use Rattle.std.proofs.Common.{◌≡◌, ◌++◌, take}
 use Rattle.std.specs.List.{flat_map}
-use Rattle.fuse_text.specs.Fronts.{Begins}
+use Rattle.plain_text.specs.Fronts.{Begins}
 use Rattle.fuse_text.specs.RecordText.{remove_one_text}
 use Rattle.fuse_text.proofs.requests.put_removes.Given as goal
 
