@@ -1,7 +1,7 @@
 -- The spelling of a request with zeros where any bytes may stand.
 use Rattle.std.proofs.Common.{◌≡◌, ℕ, ◌+◌, ◌*◌, ◌<◌, ◌≤◌, ◌^◌, true, List, [], ◌∷◌, ◌++◌, length, Option, Some, None, refl, sym, subst, ◌∙◌, ap, arith, eqb}
 use Rattle.std.specs.List.{flat_map}
-use Rattle.std.proofs.lemmas.Bool.{leb-true, ltb-false, and_parts}
+use Rattle.std.proofs.lemmas.Bool.{leb-true, le-leb, eq-eqb, ltb-false, and_parts}
 use Rattle.std.proofs.lemmas.List.{append-nil, append_assoc, length-append}
 use Rattle.plain_file.specs.Limits.{max_part}
 use Rattle.plain_file.specs.Names.{is_name}
@@ -24,8 +24,10 @@ use Rattle.fuse_wire.specs.declared.forgets.ForgetOne.{ForgetOne}
 use Rattle.fuse_wire.specs.declared.mappings.RemoveOne.{RemoveOne}
 use Rattle.fuse_codec.specs.declared.messages.Request.{Request}
 use Rattle.fuse_codec.specs.declared.messages.Request.TheVariants as requests
+use Rattle.fuse_codec.specs.declared.messages.Head.{Head}
 use Rattle.fuse_codec.specs.declared.messages.Message.{Message}
-use Rattle.fuse_codec.specs.Grammar.{body_parts, is_bounded, named, header_of, clean_message, Spells}
+use Rattle.fuse_codec.specs.declared.opcodes.Opcode.TheVariants as opcodes
+use Rattle.fuse_codec.specs.Grammar.{body_parts, is_bounded, kind_of, named, header_of, header_with, write_message, clean_message, Spells}
 use Rattle.fuse_codec.proofs.Ones.{ones_len}
 
 -- ---- how many bytes a body has
@@ -133,6 +135,18 @@ message_text out m len e =
 
 pub write_text : (out : List ℕ) (h : WriteIn) (text : List ℕ) → (out ++ clean (write_in h)) ++ text ≡ out ++ clean (write_in h ++ Bytes text ∷ [])
 write_text out h text = append_assoc out (clean (write_in h)) text ∙ ap (λ (xs : List ℕ). out ++ xs) (sym (clean_append (write_in h) (Bytes text ∷ []) ∙ ap (λ (xs : List ℕ). clean (write_in h) ++ xs) (append-nil text)))
+
+pub written_message : (head : Head) (h : WriteIn) (text : List ℕ) (n : ℕ) → n ≡ 80 + length text → clean (in_header (header_with n head opcodes.Write)) ++ clean (write_in h ++ Bytes text ∷ []) ≡ clean_message (write_message head h text)
+unfolding body_parts kind_of
+written_message head h text n e =
+    let body = clean (write_in h ++ Bytes text ∷ []) in
+    let len : 40 + length text ≡ parts_len (write_in h ++ Bytes text ∷ []) = omega (arith, write_in_law.sized h, parts_len_append (write_in h) (Bytes text ∷ [])) in
+    let is : 40 + (40 + length text) ≡ n = omega (arith, e) in
+    subst (λ (k : ℕ). clean (in_header (header_with k head opcodes.Write)) ++ body ≡ clean_message (write_message head h text)) is (message_text [] (write_message head h text) (40 + length text) len)
+
+pub write_is_spelled : (head : Head) (h : WriteIn) (text : List ℕ) (n : ℕ) → h.size ≡ length text → length text ≤ 1048576 → FitsParts (write_in h ++ Bytes text ∷ []) → FitsParts (in_header (header_with n head opcodes.Write)) → Spells (write_message head h text) (clean_message (write_message head h text))
+unfolding body_parts kind_of is_bounded
+write_is_spelled head h text n size most fits front = clean_is_spelled (write_message head h text) n (grind (arith, eq-eqb h.size (length text) size, le-leb (length text) 1048576 most)) fits front
 
 pub create_text : (out : List ℕ) (h : CreateIn) (name : List ℕ) → ((out ++ clean (create_in h)) ++ name) ++ 0 ∷ [] ≡ out ++ clean (create_in h ++ named name)
 create_text out h name = append_assoc (out ++ clean (create_in h)) name (0 ∷ []) ∙ append_assoc out (clean (create_in h)) (name ++ 0 ∷ []) ∙ ap (λ (xs : List ℕ). out ++ xs) (sym (clean_append (create_in h) (named name)))

@@ -10,12 +10,14 @@ use Rattle.fuse_wire.specs.Inits.{init_in}
 use Rattle.fuse_wire.specs.Forgets.{forget_in, forget_one}
 use Rattle.fuse_wire.specs.Mappings.{setup_in, remove_one}
 use Rattle.fuse_wire.specs.declared.records.InHeader.{InHeader}
+use Rattle.fuse_wire.specs.declared.records.WriteIn.{WriteIn}
 use Rattle.fuse_codec.specs.declared.opcodes.Opcode.{Opcode}
 use Rattle.fuse_codec.specs.declared.opcodes.Opcode.TheVariants as opcodes
 use Rattle.fuse_codec.specs.declared.opcodes.ReplyForm.{ReplyForm}
 use Rattle.fuse_codec.specs.declared.opcodes.ReplyForm.TheVariants as forms
 use Rattle.fuse_codec.specs.declared.messages.Request.{Request}
 use Rattle.fuse_codec.specs.declared.messages.Request.TheVariants as requests
+use Rattle.fuse_codec.specs.declared.messages.Head.{Head}
 use Rattle.fuse_codec.specs.declared.messages.Message.{Message}
 use Rattle.plain_file.specs.Limits.{max_part, max_transfer}
 use Rattle.fuse_codec.specs.Opcodes.{number, reply_form}
@@ -101,18 +103,26 @@ pub record SpellsBody (q : Request) (bytes : List ℕ) : Type 0 where
   pub bounded : is_bounded q ≡ true
   pub parts : AreSpelled (body_parts q) bytes
 
--- the header of a message of so many bytes
-abbrev pub header_of : ℕ → Message → InHeader
-header_of len m = record {
+-- the header of a request of so many bytes, of this operation
+abbrev pub header_with : ℕ → Head → Opcode → InHeader
+header_with len head opcode = record {
   len = len;
-  opcode = number (kind_of m.body);
-  unique = m.head.unique;
-  nodeid = m.head.nodeid;
-  uid = m.head.uid;
-  gid = m.head.gid;
-  pid = m.head.pid;
+  opcode = number opcode;
+  unique = head.unique;
+  nodeid = head.nodeid;
+  uid = head.uid;
+  gid = head.gid;
+  pid = head.pid;
   total_extlen = 0;
 }
+
+-- the header of a message of so many bytes
+abbrev pub header_of : ℕ → Message → InHeader
+header_of len m = header_with len m.head (kind_of m.body)
+
+-- a WRITE of these bytes
+abbrev pub write_message : Head → WriteIn → List ℕ → Message
+write_message head write bytes = record { head = head; body = requests.Write write bytes }
 
 -- bytes that spell a message: the header, whose `len` is the length of all, then the body
 pub record Spells (m : Message) (bytes : List ℕ) : Type 0 where

@@ -1,16 +1,17 @@
 ghost use Rattle.std.specs.Prelude.{◌≡◌, ◌≤◌, ◌+◌, ◌*◌, [], ◌∷◌, ◌++◌, true, length, IfOk, OnOk, OnErr, Ok, vec_len, vec_capacity};
 ghost use Rattle.std.specs.List.{flat_map};
-ghost use Rattle.plain_file.specs.Limits.{max_part};
-ghost use Rattle.fuse_wire.specs.Layout.{Bytes, clean, parts_len};
+ghost use Rattle.plain_file.specs.Limits.{max_part, max_transfer};
+ghost use Rattle.fuse_wire.specs.Layout.{Bytes, FitsParts, clean, parts_len};
 ghost use Rattle.fuse_wire.specs.Forgets.{forget_one};
 ghost use Rattle.fuse_wire.specs.Records.{write_in};
 ghost use Rattle.fuse_wire.specs.Opens.{create_in};
 ghost use Rattle.fuse_wire.specs.Mappings.{remove_one};
-ghost use Rattle.fuse_codec.specs.Grammar.{body_parts, named, is_bounded, header_of, clean_message, Spells};
+ghost use Rattle.fuse_codec.specs.Grammar.{body_parts, named, is_bounded, header_with, write_message, clean_message, Spells};
 ghost use Rattle.fuse_codec.specs.Reading.{message_of};
 
 use crate::fitting::numbers_fit;
-use crate::messages::{Message, Request};
+use crate::messages::{Head, Message, Request};
+use crate::opcodes::Opcode;
 use fuse_wire::{
     CreateIn, FallocateIn, FlushIn, ForgetIn, ForgetOne, FsyncIn, GetattrIn, InHeader, InitIn,
     OpenIn, ReadIn, ReleaseIn, RemoveOne, SetattrIn, SetupIn, WriteIn, u32_bytes,
@@ -49,10 +50,11 @@ fn put_removes(out: &mut Vec<u8>, ones: &[RemoveOne])
 }
 
 // Appends the body of a WRITE.
-#[tactic(auto, using(crate::proofs::CleanRequests::write_len, crate::proofs::CleanRequests::write_text))]
+#[tactic(auto, using(crate::proofs::CleanRequests::write_len, crate::proofs::CleanRequests::write_text, fuse_wire::proofs::Laws::FitsParts_append, fuse_wire::proofs::Laws::text_fits), unfolding(fuse_wire::specs::Layout::FitsParts))]
 fn put_write(out: &mut Vec<u8>, head: &WriteIn, bytes: &[u8])
     requires room { vec_len out.old + length (clean (write_in head.now ++ Bytes bytes.now ∷ [])) ≤ vec_capacity out.old }
     ensures text { out.new.items ≡ out.old.items ++ clean (write_in head.now ++ Bytes bytes.now ∷ []) }
+    ensures fits { FitsParts (write_in head.now ++ Bytes bytes.now ∷ []) }
 {
     put(out, &head.put());
     put(out, bytes);
@@ -145,18 +147,18 @@ fn put_body(out: &mut Vec<u8>, body: &Request)
     }
 }
 
-// The header of a message of `len` bytes.
-pub(crate) fn header_of(len: u32, message: &Message) -> InHeader
-    ensures { result ≡ header_of len message.now }
+// The header of a request of `len` bytes, of this operation.
+pub(crate) fn header_with(len: u32, head: &Head, opcode: Opcode) -> InHeader
+    ensures { result ≡ header_with len head.now opcode }
 {
     InHeader {
         len,
-        opcode: message.body.opcode().number(),
-        unique: message.head.unique,
-        nodeid: message.head.nodeid,
-        uid: message.head.uid,
-        gid: message.head.gid,
-        pid: message.head.pid,
+        opcode: opcode.number(),
+        unique: head.unique,
+        nodeid: head.nodeid,
+        uid: head.uid,
+        gid: head.gid,
+        pid: head.pid,
         total_extlen: 0,
     }
 }
@@ -172,7 +174,8 @@ pub fn put_request(out: &mut Vec<u8>, message: &Message) -> Result<(), Memory>
 {
     let len = InHeader::SIZE + body_len(&message.body);
     out.reserve(len)?;
-    put(out, &header_of(len as u32, message).put());
+    let header = header_with(len as u32, &message.head, message.body.opcode());
+    put(out, &header.put());
     put_body(out, &message.body);
     Ok(())
 }
@@ -189,5 +192,32 @@ pub fn encode_request(alloc: Global, message: &Message) -> Result<Blob, Memory>
     let mut out = Vec::new(alloc);
     put_request(&mut out, message)?;
     numbers_fit(message);
+    Ok(Blob::from_vec(out))
+}
+
+/// The bytes of a WRITE of bytes that the caller keeps: those that [`encode_request`] gives for the
+/// message with this head and these bytes, which decoding gives back. `write.size` is their number, at
+/// most 1,048,576. `Memory` comes where the allocation was refused.
+#[tactic(auto, using(crate::proofs::CleanRequests::write_len), unfolding(crate::specs::Grammar::body_parts))]
+pub fn encode_write(
+    alloc: Global,
+    head: &Head,
+    write: &WriteIn,
+    bytes: &[u8],
+) -> Result<Blob, Memory>
+    requires size { write.now.size ≡ length bytes.now }
+    requires most { length bytes.now ≤ max_transfer }
+    ensures clean { IfOk result (λ b. b ≡ clean_message (write_message head.now write.now bytes.now)) }
+    ensures spelled { IfOk result (λ b. Spells (write_message head.now write.now bytes.now) b) }
+    ensures again { IfOk result (λ b. message_of b ≡ Ok (write_message head.now write.now bytes.now)) }
+{
+    let len = InHeader::SIZE + WriteIn::SIZE + bytes.len();
+    let mut out = Vec::new(alloc);
+    out.reserve(len)?;
+    put(
+        &mut out,
+        &header_with(len as u32, head, Opcode::Write).put(),
+    );
+    put_write(&mut out, write, bytes);
     Ok(Blob::from_vec(out))
 }

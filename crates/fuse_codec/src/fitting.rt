@@ -5,7 +5,7 @@ ghost use Rattle.fuse_wire.specs.Forgets.{forget_one};
 ghost use Rattle.fuse_wire.specs.Mappings.{remove_one};
 ghost use Rattle.fuse_codec.specs.Grammar.{body_parts, is_bounded, clean_message, Spells};
 
-use crate::encoding::header_of;
+use crate::encoding::header_with;
 use crate::limits::{MAX_PART, MAX_REMOVED, MAX_TRANSFER};
 use crate::messages::{Message, Request};
 use fuse_wire::{ForgetIn, ForgetOne, InitIn, RemoveOne};
@@ -62,7 +62,7 @@ pub(crate) fn numbers_fit(message: &Message)
     requires bounded { is_bounded message.now.body ≡ true }
     ensures { Spells message.now (clean_message message.now) }
 {
-    header_of(0, message).put();
+    header_with(0, &message.head, message.body.opcode()).put();
     body_fits(&message.body);
 }
 
