@@ -15,6 +15,8 @@
 
 mod asks;
 mod calls;
+mod counted_words;
+mod halts;
 mod memory;
 mod reads;
 mod scripts;
@@ -25,6 +27,7 @@ mod sure;
 mod tests;
 mod traits;
 mod whys;
+mod word_reads;
 mod words;
 mod writes;
 
