@@ -14,6 +14,7 @@
 #![tactic(auto)]
 
 mod asks;
+mod call_reads;
 mod calls;
 mod counted_words;
 mod halts;

@@ -7,7 +7,7 @@ ghost use Rattle.plain_file.specs.Limits.{max_transfer};
 ghost use Rattle.page_map.specs.Logs.{is_writable};
 ghost use Rattle.dax_script.specs.Asks.{chunk_size};
 ghost use Rattle.dax_script.specs.Halts.{Gives};
-ghost use Rattle.dax_script.specs.ScriptWords.{number, between, in_file, in_chunk, is_ranges, ranges_number, is_script_name_byte, is_script_name, is_called, new_name, file_named, only_byte, byte, hex, mode, hold, is_writing, writing_hold};
+ghost use Rattle.dax_script.specs.ScriptWords.{number, between, in_file, in_chunk, is_ranges, ranges_number, is_script_name_byte, is_script_name, is_called, new_name, file_named, byte, hex, mode, hold, is_writing, writing_hold};
 
 use crate::CHUNK;
 use crate::halts::Halt;
@@ -15,7 +15,7 @@ use crate::scripts::FileLine;
 use crate::whys::Why;
 use page_map::Mode;
 use plain_file::{Blob, MAX_FILE, MAX_TRANSFER, Name};
-use plain_text::hex_bytes;
+use plain_text::{hex_byte, hex_bytes};
 use std::alloc::Global;
 
 #[tactic(auto, unfolding(crate::specs::ScriptWords::number))]
@@ -150,4 +150,53 @@ pub(crate) fn hold(held: &[Mode], word: &[u8]) -> Result<u32, Why>
         return Err(Why::Hold);
     }
     Ok(n as u32)
+}
+
+#[tactic(auto, unfolding(crate::specs::ScriptWords::writing_hold))]
+pub(crate) fn writing_hold(held: &[Mode], word: &[u8]) -> Result<u32, Why>
+    requires { length held.now ≤ 32 }
+    ensures { result ≡ writing_hold held.now word.now }
+{
+    let n = number(word)?;
+    if n >= held.len() as u128 {
+        return Err(Why::Hold);
+    }
+    if !is_written(held[n as usize]) {
+        return Err(Why::Hold);
+    }
+    Ok(n as u32)
+}
+
+#[tactic(auto, unfolding(page_map::specs::Logs::is_writable))]
+fn is_written(mode: Mode) -> bool
+    ensures { result ≡ is_writable mode }
+{
+    mode == Mode::W
+}
+
+#[tactic(auto, unfolding(crate::specs::ScriptWords::byte))]
+pub(crate) fn byte(word: &[u8]) -> Result<u8, Why>
+    ensures { result ≡ byte word.now }
+{
+    match hex_byte(word) {
+        Some(b) => Ok(b),
+        None => Err(Why::Byte),
+    }
+}
+
+/// A name of the script's form that no file has yet.
+#[tactic(auto, using(crate::proofs::ScriptNames::script_name_is_name), unfolding(crate::specs::ScriptWords::new_name))]
+pub(crate) fn new_name(alloc: Global, files: &[FileLine], word: &[u8]) -> Result<Name, Halt>
+    ensures { Gives result (new_name files.now word.now) }
+{
+    if !is_script_name(word) || is_taken(files, word) {
+        return Err(Halt::Bad(Why::Name));
+    }
+    Ok(Name::new(Blob::copy_of(alloc, word)?).unwrap())
+}
+
+fn is_taken(files: &[FileLine], name: &[u8]) -> bool
+    ensures { result ≡ list_any (is_called name.now) files.now }
+{
+    files.iter().any(|f| f.name.as_slice() == name)
 }
