@@ -1,14 +1,14 @@
-ghost use Rattle.std.specs.Prelude.{◌≡◌, ◌≤◌, length, true, IfOk, OnOk, OnErr};
+ghost use Rattle.std.specs.Prelude.{◌≡◌, ◌≤◌, ◌++◌, length, true, IfOk, OnOk, OnErr};
 ghost use Rattle.plain_file.specs.Limits.{max_part};
 ghost use Rattle.fuse_codec.specs.Grammar.{is_bounded};
 ghost use Rattle.fuse_codec.specs.Reading.{message_of};
 ghost use Rattle.fuse_device.specs.Steps.{wanted_room, judged_message, forgot, replied, device_step};
-ghost use Rattle.fuse_device.specs.Promises.{Gives, IsWithin, CanServe, CanStep, Steps, world};
+ghost use Rattle.fuse_device.specs.Promises.{Gives, IsWithin, CanServe, CanStep, world};
 
 use crate::daemon::Daemon;
 use fuse_codec::{BadRequest, Message, Reply, decode_request, put_reply};
 use fuse_device::{
-    Plan, Refused, is_forget_chain, is_init, plan_chain, put_error, refusal, wanted_room, with_room,
+    Plan, Refused, is_forget_chain, is_init, plan_chain, put_error, reserve_reply, wanted_room,
 };
 use fuse_wire::Errno;
 use page_map::MapBoard;
@@ -40,7 +40,7 @@ impl Daemon {
         self.serve(alloc, message, files, map)
     }
 
-    // The bytes that answer a request. They have their place before anything is done.
+    // Appends the bytes that answer a request. They have their place before anything is done.
     #[tactic(auto, using(fuse_codec::proofs::CleanReplies::reply_bound), unfolding(fuse_device::specs::Steps::reply_to))]
     fn answer_message<F: FileBoard, M: MapBoard>(
         &mut self,
@@ -49,19 +49,23 @@ impl Daemon {
         room: u32,
         files: &mut F,
         map: &mut M,
-    ) -> Result<Blob, Memory>
+        out: &mut Vec<u8>,
+    ) -> Result<(), Memory>
         requires bounded { is_bounded message.body ≡ true }
         requires boards { CanServe self.old (F.board files.old) (M.map map.old) message.body }
-        ensures { Steps (world self.old (F.board files.old) (M.map map.old)) (replied message.head.unique (judged_message (world self.old (F.board files.old) (M.map map.old)) room message)) result (world self.new (F.board files.new) (M.map map.new)) }
+        ensures reply { OnOk result (out.new.items ≡ out.old.items ++ (replied message.head.unique (judged_message (world self.old (F.board files.old) (M.map map.old)) room message)).1) }
+        ensures step { OnOk result (world self.new (F.board files.new) (M.map map.new) ≡ (replied message.head.unique (judged_message (world self.old (F.board files.old) (M.map map.old)) room message)).0) }
+        ensures memory { OnErr result (world self.new (F.board files.new) (M.map map.new) ≡ world self.old (F.board files.old) (M.map map.old)) }
+        ensures same { OnErr result (out.new.items ≡ out.old.items) }
     {
         let unique = message.head.unique;
-        let mut out = with_room(alloc, &message.body)?;
+        reserve_reply(out, &message.body)?;
         match self.judge(alloc, message, room, files, map) {
-            Ok(reply) => put_reply(&mut out, &reply, unique),
-            Err(Refused::Errno(error)) => put_error(&mut out, error, unique),
+            Ok(reply) => put_reply(out, &reply, unique),
+            Err(Refused::Errno(error)) => put_error(out, error, unique),
             Err(Refused::Memory) => return Err(Memory),
         }
-        Ok(Blob::from_vec(out))
+        Ok(())
     }
 
     // Carries out what has no reply.
@@ -110,10 +114,47 @@ impl Daemon {
     /// `fuse_out_header` alone, with the negative number; nothing has changed then. Both have the
     /// request's `unique`.
     ///
+    /// The bytes are appended to `out`; what stood there before stays.
+    ///
     /// Where the bytes are a request, the conditions of [`serve`](Daemon::serve) on the files and the
     /// map hold. `Memory` comes only from a refused allocation. Room for the reply is had before
-    /// anything is done, so nothing has changed then.
+    /// anything is done, so nothing has changed then, the bytes of `out` neither.
     #[tactic(auto, using(fuse_device::proofs::Planning::device_step_planned, fuse_device::proofs::Planning::device_step_forgot), unfolding(fuse_device::specs::Plans::whole_plan_step))]
+    pub fn serve_chain_into<F: FileBoard, M: MapBoard>(
+        &mut self,
+        alloc: Global,
+        readable: &[u8],
+        room: u32,
+        files: &mut F,
+        map: &mut M,
+        out: &mut Vec<u8>,
+    ) -> Result<(), Memory>
+        requires within { length readable.now ≤ max_part }
+        requires boards { CanStep self.old (F.board files.old) (M.map map.old) readable.now }
+        ensures reply { OnOk result (out.new.items ≡ out.old.items ++ (device_step (world self.old (F.board files.old) (M.map map.old)) readable.now room).1) }
+        ensures step { OnOk result (world self.new (F.board files.new) (M.map map.new) ≡ (device_step (world self.old (F.board files.old) (M.map map.old)) readable.now room).0) }
+        ensures memory { OnErr result (world self.new (F.board files.new) (M.map map.new) ≡ world self.old (F.board files.old) (M.map map.old)) }
+        ensures same { OnErr result (out.new.items ≡ out.old.items) }
+    {
+        if is_forget_chain(readable) {
+            self.forget_chain(alloc, readable, files, map)?;
+            return Ok(());
+        }
+        match plan_chain(alloc, readable, room)? {
+            Plan::Silent => Ok(()),
+            Plan::Refuse { error, unique } => {
+                out.reserve(16)?;
+                put_error(out, error, unique);
+                Ok(())
+            }
+            Plan::Carry(message) => self.answer_message(alloc, message, room, files, map, out),
+        }
+    }
+
+    /// Serves one chain of a virtio-fs queue as [`serve_chain_into`](Daemon::serve_chain_into) does, and
+    /// gives the bytes in a buffer of their own.
+    ///
+    /// `Memory` comes only from a refused allocation, and nothing has changed then.
     pub fn serve_chain<F: FileBoard, M: MapBoard>(
         &mut self,
         alloc: Global,
@@ -128,14 +169,8 @@ impl Daemon {
         ensures step { OnOk result (world self.new (F.board files.new) (M.map map.new) ≡ (device_step (world self.old (F.board files.old) (M.map map.old)) readable.now room).0) }
         ensures memory { OnErr result (world self.new (F.board files.new) (M.map map.new) ≡ world self.old (F.board files.old) (M.map map.old)) }
     {
-        if is_forget_chain(readable) {
-            self.forget_chain(alloc, readable, files, map)?;
-            return Ok(Blob::new(alloc));
-        }
-        match plan_chain(alloc, readable, room)? {
-            Plan::Silent => Ok(Blob::new(alloc)),
-            Plan::Refuse { error, unique } => refusal(alloc, error, unique),
-            Plan::Carry(message) => self.answer_message(alloc, message, room, files, map),
-        }
+        let mut out = Vec::new(alloc);
+        self.serve_chain_into(alloc, readable, room, files, map, &mut out)?;
+        Ok(Blob::from_vec(out))
     }
 }

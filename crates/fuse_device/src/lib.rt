@@ -46,7 +46,7 @@ pub use laws::{plans_are_steps, sizes_are_allowed, steps_fit_and_add_acts};
 pub use listing::{numbered_entries, pass_over};
 pub use plans::{Plan, header_at, is_forget_chain, plan_chain};
 pub use refusals::Refused;
-pub use replies::{put_error, refusal, with_room};
+pub use replies::{put_error, refusal, reserve_reply, with_room};
 pub use requests::{
     has_flag, is_body_on_file, is_data, is_dots, is_forget, is_init, is_on_file, wanted_room,
 };

@@ -1,4 +1,4 @@
-ghost use Rattle.std.specs.Prelude.{◌≡◌, ◌≤◌, [], min, Err, vec_capacity, IfOk};
+ghost use Rattle.std.specs.Prelude.{◌≡◌, ◌≤◌, ◌+◌, ◌++◌, [], min, Err, length, vec_capacity, IfOk, OnOk};
 ghost use Rattle.fuse_codec.specs.Replies.{clean_reply};
 ghost use Rattle.fuse_device.specs.Steps.{wanted_room, reply_to};
 
@@ -21,12 +21,23 @@ pub fn with_room(alloc: Global, body: &Request) -> Result<Vec<u8>, Memory>
     Ok(Vec::with_capacity(alloc, most as usize)?)
 }
 
-/// Puts an error into an empty buffer that has room for it, with the number of the request.
+/// Makes room in a buffer for a request's reply, and for an error, behind what stands in it. `Memory` comes
+/// where it was refused. What stands in the buffer stays in any case.
+pub fn reserve_reply(out: &mut Vec<u8>, body: &Request) -> Result<(), Memory>
+    ensures same { out.new.items ≡ out.old.items }
+    ensures reply { OnOk result (length out.old.items + min (wanted_room body.now) 1048592 ≤ vec_capacity out.new) }
+    ensures error { OnOk result (length out.old.items + 16 ≤ vec_capacity out.new) }
+{
+    let most = wanted_room(body).min(MAX_REPLY);
+    out.reserve(most as usize)?;
+    Ok(())
+}
+
+/// Puts an error behind the bytes of a buffer that has room for it, with the number of the request.
 #[tactic(auto, unfolding(crate::specs::Steps::reply_to, fuse_codec::specs::Replies::reply_parts, fuse_codec::specs::Replies::is_reply))]
 pub fn put_error(out: &mut Vec<u8>, error: Errno, unique: u64)
-    requires room { 16 ≤ vec_capacity out.old }
-    requires empty { out.old.items ≡ [] }
-    ensures { out.new.items ≡ clean_reply unique (reply_to (Err error)) }
+    requires { length out.old.items + 16 ≤ vec_capacity out.old }
+    ensures { out.new.items ≡ out.old.items ++ clean_reply unique (reply_to (Err error)) }
 {
     let reply = Reply::Error {
         number: error.number(),
