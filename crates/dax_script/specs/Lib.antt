@@ -2,3 +2,4 @@ pub mod Causes
 pub mod Calls
 pub mod Memory
 pub mod Statuses
+pub mod Runs
