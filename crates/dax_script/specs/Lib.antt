@@ -9,3 +9,4 @@ pub mod ScriptText
 pub mod Halts
 pub mod ScriptPrinted
 pub mod Fits
+pub mod Runs

@@ -1,15 +1,3 @@
-pub mod Answering
-pub mod Bounds
-pub mod CourseLaws
-pub mod DeviceAnswers
-pub mod Following
-pub mod FrameSteps
-pub mod HeaderLaws
-pub mod Reading
-pub mod RingImages
+pub mod ReadForms
 pub mod RingRuns
-pub mod Serving
 pub mod ServingChains
-pub mod Stable
-pub mod StreamEnds
-pub mod Sums

@@ -7,9 +7,10 @@ use Rattle.plain_file.specs.Counts.{Rose}
 use Rattle.dax_script.specs.Causes.{AppendsPart}
 use Rattle.dax_script.specs.declared.statuses.Status.{Status}
 use Rattle.dax_script.specs.declared.statuses.Status.TheVariants as statuses
-use Rattle.daxwire.specs.Frames.{limit}
-use Rattle.daxwire.specs.Courses.{Writes}
-use Rattle.daxwire.specs.Run.{IfFinished, IsOkOrMemory}
+use Rattle.chain_stream.specs.Frames.{limit}
+use Rattle.chain_stream.specs.Courses.{Writes}
+use Rattle.dax_script.specs.Runs.{IsOkOrMemory}
+use Rattle.daxwire.specs.Run.{IfFinished}
 use Rattle.daxwire.specs.RingText.{Due, image_due, ring_due, ring_text, ring_status, IsAnswered}
 
 -- a text was taken whole, and the status is the one that goes with it

@@ -1,8 +1,4 @@
 pub mod Commands
-pub mod Courses
-pub mod Frames
-pub mod Headers
-pub mod RingImage
 pub mod RingText
 pub mod Run
 pub mod Serve

@@ -1,72 +1,29 @@
 -- What `ring` prints: four lines for each chain that is served, and a last line.
-use Rattle.std.specs.Prelude.{◌≡◌, ℕ, ◌+◌, zero, suc, nat_lt, ◌≤◌, List, [], ◌∷◌, ◌++◌, length, codes, Option, Some, None, unwrap_or, Result, Ok, Err, IsOk, if◌then◌else◌}
+use Rattle.std.specs.Prelude.{ℕ, zero, suc, nat_lt, List, [], ◌∷◌, ◌++◌, length, codes, Option, Some, None, Result, Ok, Err, if◌then◌else◌}
 use Rattle.std.specs.Fmt.{decimal}
 use Rattle.hex.specs.Hex.{encode_lower}
 use Rattle.sha2.specs.Sha256.{sha256}
 use Rattle.dax_script.specs.declared.statuses.Status.{Status}
 use Rattle.dax_script.specs.declared.statuses.Status.TheVariants as statuses
 use Rattle.fuse_codec.specs.Reading.{message_of}
-use Rattle.fuse_codec.specs.ReplyReading.{reply_of}
-use Rattle.fuse_codec.specs.Replies.{answer_form}
-use Rattle.fuse_codec.specs.declared.opcodes.ReplyForm.{ReplyForm}
-use Rattle.fuse_codec.specs.declared.opcodes.ReplyForm.TheVariants as forms
 use Rattle.fuse_codec.specs.declared.replies.Reply.{Reply}
 use Rattle.fuse_codec.specs.declared.errors.BadReply.{BadReply}
 use Rattle.fuse_text.specs.Lines.{reply_line}
-use Rattle.fuse_device.specs.Steps.{Step, device_step, header_at}
 use Rattle.vring.specs.declared.chains.Chain.{Chain}
 use Rattle.vring.specs.declared.faults.RingFault.{RingFault}
 use Rattle.vring.specs.declared.faults.RingFault.TheVariants as faults
-use Rattle.vring.specs.Bytes.{u16_at}
-use Rattle.vring.specs.Pieces.{total, gathered, scattered}
-use Rattle.vring.specs.Chain.{chain_at, ahead}
-use Rattle.vring.specs.Ring.{next_index, used_pushed}
-use Rattle.daxwire.specs.declared.queue_devices.Turn.{Turn}
-use Rattle.daxwire.specs.declared.queue_devices.Turn.TheVariants as turns
-use Rattle.daxwire.specs.Frames.{limit}
+use Rattle.vring.specs.Pieces.{total}
+use Rattle.chain_stream.specs.Frames.{limit}
 use Rattle.daxwire.specs.Show.{chain_line}
-use Rattle.daxwire.specs.RingImage.{DeviceView, device_in}
-
--- ---- one chain
-
--- what the device reads of a chain, before anything is written
-abbrev pub readable_in : DeviceView → Chain → List ℕ
-readable_in d chain = gathered d.memory chain.readable
-
--- the device's step on a chain
-abbrev pub step_on : DeviceView → Chain → Step
-step_on d chain = device_step d.world (readable_in d chain) (total chain.writable)
-
--- the bytes that it answers
-abbrev pub answer_to : DeviceView → Chain → List ℕ
-answer_to d chain = (step_on d chain).1
-
--- a chain is answered: the answer is scattered into the writable pieces, and the chain is pushed with its length
-abbrev pub answered : DeviceView → Chain → DeviceView
-answered d chain = record {
-  world = (step_on d chain).0;
-  memory = used_pushed d.ring (scattered d.memory chain.writable (answer_to d chain)) chain.head (length (answer_to d chain));
-  ring = record d.ring { used_index = next_index d.ring.used_index };
-}
-
--- a chain was popped
-abbrev pub popped : DeviceView → DeviceView
-popped d = record d { ring = record d.ring { seen = next_index d.ring.seen } }
+use Rattle.dax_device.specs.Answers.{reply_in}
+use Rattle.dax_device.specs.Queues.{DeviceView, answer_to, answered, next_of, offered, popped, readable_in}
+use Rattle.dax_device.specs.RingImage.{device_in}
 
 -- ---- the lines of a chain
 
 -- the head, and the sums of both parts
 unfoldable pub heading : Chain → List ℕ
 heading chain = codes "chain " ++ decimal chain.head ++ codes " readable " ++ decimal (total chain.readable) ++ codes " writable " ++ decimal (total chain.writable) ++ codes "\n"
-
--- The form as which an answer to the operation of a number is read. What no operation has, and what has
--- no reply, is answered by a header alone at most.
-unfoldable pub read_form : ℕ → ReplyForm
-read_form opcode = unwrap_or (answer_form opcode) forms.Done
-
--- an answer to the readable bytes of a request, read as a reply
-unfoldable pub reply_in : List ℕ → List ℕ → Result (ℕ × Reply) BadReply
-reply_in readable answer = reply_of (read_form (header_at readable).opcode) answer
 
 -- the line of an answer that was read; bytes that are no reply have none
 unfoldable pub line_of_read : Result (ℕ × Reply) BadReply → List ℕ
@@ -77,11 +34,6 @@ line_of_read (Err bad) = []
 unfoldable pub answer_line : List ℕ → List ℕ → List ℕ
 answer_line readable [] = codes "no reply"
 answer_line readable (byte ∷ bytes) = line_of_read (reply_in readable (byte ∷ bytes))
-
--- an answer is no bytes, or a reply to the request whose header is at the front of the readable bytes
-abbrev pub IsAnswer : List ℕ → List ℕ → Type 0
-IsAnswer readable [] = Unit {0}
-IsAnswer readable (byte ∷ bytes) = (40 ≤ length readable) × IsOk (reply_in readable (byte ∷ bytes))
 
 -- the four lines of a chain with its readable bytes and its answer
 abbrev pub lines_of : Chain → List ℕ → List ℕ → List ℕ
@@ -116,20 +68,8 @@ found d (Ok (Some chain)) serve = serve chain
 unfoldable pub served_at_most : ℕ → DeviceView → Served
 served_at_most zero d = no_more (Ok d.memory)
 served_at_most (suc n) d =
-    found d (chain_at d.memory d.ring.layout d.ring.seen)
+    found d (next_of d)
     (λ chain. onto (lines_of chain (readable_in d chain) (answer_to d chain)) (served_at_most n (answered (popped d) chain)))
-
--- how many chains are offered: so far is the available index ahead of the seen one
-unfoldable pub offered : DeviceView → ℕ
-offered d = ahead (u16_at d.memory (d.ring.layout.available + 2)) d.ring.seen
-
--- What a turn for one chain did: a chain was served, there was none, or a fault was found. Only the first changes anything.
-abbrev pub Advances : DeviceView → List ℕ → Turn → DeviceView → List ℕ → Type 0
-Advances old out turns.Served new out' =
-    (chain : Chain) × (chain_at old.memory old.ring.layout old.ring.seen ≡ Ok (Some chain))
-    × (new ≡ answered (popped old) chain) × (out' ≡ out ++ lines_of chain (readable_in old chain) (answer_to old chain))
-Advances old out turns.Idle new out' = (chain_at old.memory old.ring.layout old.ring.seen ≡ Ok None) × (new ≡ old) × (out' ≡ out)
-Advances old out (turns.Fault fault) new out' = (chain_at old.memory old.ring.layout old.ring.seen ≡ Err fault) × (new ≡ old) × (out' ≡ out)
 
 -- ---- the whole text
 

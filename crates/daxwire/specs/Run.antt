@@ -6,8 +6,9 @@ use Rattle.dax_script.specs.declared.statuses.Status.TheVariants as statuses
 use Rattle.daxwire.specs.declared.commands.Command.{Command}
 use Rattle.daxwire.specs.declared.commands.Command.TheVariants as commands
 use Rattle.daxwire.specs.Commands.{command_of}
-use Rattle.daxwire.specs.Courses.{Course, IsCutOff, course_by, course_of, due, status_of}
-use Rattle.daxwire.specs.Serve.{fault_output, first_world, outputs}
+use Rattle.chain_stream.specs.Courses.{Course, IsCutOff, course_by, course_of, due, status_of}
+use Rattle.dax_device.specs.Devices.{first_world}
+use Rattle.daxwire.specs.Serve.{fault_output, outputs}
 use Rattle.daxwire.specs.RingText.{ring_text, ring_status}
 use Rattle.daxwire.specs.Show.{frame_lines, end_line}
 
@@ -77,25 +78,3 @@ IfFinished statuses.WriteFault P = Unit {0}
 IfFinished statuses.Memory P = Unit {0}
 IfFinished statuses.TooLong P = P
 IfFinished statuses.NotLegal P = P
-
--- the usage line was taken whole, or the sink failed
-abbrev pub IsUsageOrWriteFault : Status → Type 0
-IsUsageOrWriteFault statuses.Usage = Unit {0}
-IsUsageOrWriteFault statuses.WriteFault = Unit {0}
-IsUsageOrWriteFault statuses.Ok = ⊥
-IsUsageOrWriteFault statuses.Refused = ⊥
-IsUsageOrWriteFault statuses.ReadFault = ⊥
-IsUsageOrWriteFault statuses.Memory = ⊥
-IsUsageOrWriteFault statuses.TooLong = ⊥
-IsUsageOrWriteFault statuses.NotLegal = ⊥
-
--- all went well, or memory was refused
-abbrev pub IsOkOrMemory : Status → Type 0
-IsOkOrMemory statuses.Ok = Unit {0}
-IsOkOrMemory statuses.Memory = Unit {0}
-IsOkOrMemory statuses.Refused = ⊥
-IsOkOrMemory statuses.Usage = ⊥
-IsOkOrMemory statuses.ReadFault = ⊥
-IsOkOrMemory statuses.WriteFault = ⊥
-IsOkOrMemory statuses.TooLong = ⊥
-IsOkOrMemory statuses.NotLegal = ⊥

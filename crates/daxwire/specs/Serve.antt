@@ -1,36 +1,16 @@
 -- What `serve` writes: one output frame for each frame, by what the device and its window are then.
-use Rattle.std.specs.Prelude.{◌≡◌, ℕ, ◌+◌, ◌*◌, List, [], ◌∷◌, ◌++◌, length, drop, replicate, Option, Some, None}
+use Rattle.std.specs.Prelude.{◌≡◌, ℕ, ◌+◌, ◌*◌, List, [], ◌∷◌, ◌++◌, length, drop, Option, Some, None}
 use Rattle.std.specs.Int.{w32, w64, to_le_bytes}
-use Rattle.fuse_device.specs.Promises.{IsServable, world}
-use Rattle.fuse_device.specs.State.{World, new_state}
+use Rattle.fuse_device.specs.State.{World}
 use Rattle.fuse_device.specs.Steps.{Step, device_step}
-use Rattle.page_map.specs.Plain.{new_map}
-use Rattle.plain_file.specs.Plain.{new_board}
-use Rattle.plain_file.specs.declared.operations.First.{First}
-use Rattle.page_map.specs.Board.{NamesFiles}
 use Rattle.window_access.specs.Access.{load_refusal, loaded, store_refusal, stored}
 use Rattle.window_access.specs.declared.refusals.WindowRefusal.{WindowRefusal}
 use Rattle.window_access.specs.declared.refusals.WindowRefusal.TheVariants as refusals
-use Rattle.daxwire.specs.declared.frames.Lead.{Lead}
-use Rattle.daxwire.specs.declared.frames.Lead.TheVariants as leads
-use Rattle.daxwire.specs.declared.frames.End.{End}
-use Rattle.daxwire.specs.declared.frames.End.TheVariants as ends
-use Rattle.daxwire.specs.Frames.{Frame, reason_number}
-
--- ---- the device
-
--- a file of no bytes
-abbrev pub empty_file : First
-empty_file = record { size = 0; fill = 0 }
-
--- the device at a stream's start: no file is made, 16 can be, and nothing is mapped in a window of so many pages
-abbrev pub first_world : ℕ → World
-first_world pages = world (new_state pages []) (new_board 0 (replicate 16 empty_file)) (new_map pages)
-
--- what stays true of it: any request can be served, and what is mapped are files that were made
-pub record IsServing (w : World) : Type 0 where
-  pub servable : IsServable w
-  pub names : NamesFiles (length w.state.made) w.map
+use Rattle.chain_stream.specs.declared.frames.Lead.{Lead}
+use Rattle.chain_stream.specs.declared.frames.Lead.TheVariants as leads
+use Rattle.chain_stream.specs.declared.frames.End.{End}
+use Rattle.chain_stream.specs.declared.frames.End.TheVariants as ends
+use Rattle.chain_stream.specs.Frames.{Frame, reason_number}
 
 -- ---- one frame
 

@@ -7,11 +7,11 @@ use Rattle.fuse_codec.specs.Reading.{message_of}
 use Rattle.fuse_text.specs.FieldText.{field, hex_field}
 use Rattle.fuse_text.specs.Lines.{request_line, bad_line}
 use Rattle.std.specs.Fmt.{decimal}
-use Rattle.daxwire.specs.declared.frames.Lead.{Lead}
-use Rattle.daxwire.specs.declared.frames.Lead.TheVariants as leads
-use Rattle.daxwire.specs.declared.frames.End.{End}
-use Rattle.daxwire.specs.declared.frames.End.TheVariants as ends
-use Rattle.daxwire.specs.Frames.{Frame, reason_number}
+use Rattle.chain_stream.specs.declared.frames.Lead.{Lead}
+use Rattle.chain_stream.specs.declared.frames.Lead.TheVariants as leads
+use Rattle.chain_stream.specs.declared.frames.End.{End}
+use Rattle.chain_stream.specs.declared.frames.End.TheVariants as ends
+use Rattle.chain_stream.specs.Frames.{Frame, reason_number}
 
 -- the line of what the readable bytes of a chain are
 unfoldable pub chain_line : Result Message BadRequest → List ℕ

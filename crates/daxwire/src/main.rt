@@ -3,31 +3,17 @@
 //! memory, and prints what came of each.
 //!
 //! `main` makes the real source, sink and words, and calls `runs::run_wire`, whose contract is the
-//! program's. A stream is cut by `frames` as it comes through `pendings`; `responding` answers its
-//! frames one by one, whatever the answers are: `shows` gives each its line, `serves` its output frame
-//! by a device of `devices`. A ring image is opened by `images`, and served chain by chain by
-//! `queue_devices`; `ring_lines` has its lines, `rings` the whole.
+//! program's. A stream is cut into frames and answered by `chain_stream`, whatever the answers are:
+//! `shows` gives each frame its line, `serves` its output frame by a device of `dax_device`. A ring image
+//! is opened and served chain by chain by `dax_device` too; `ring_lines` has its lines, `rings` the whole.
 //!
-//! The definitions stand in `specs/`: `Frames` (the frames of a whole input), `Headers` (its header),
-//! `Show` (the lines), `Serve` (the output frames), `Courses` (what becomes of a stream, and what was
-//! done of it), `RingImage` (the device that an image stands for), `RingText` (what serving it prints),
-//! `Commands` and `Run` (what a run writes with which status).
+//! The definitions stand in `specs/`: `Show` (the lines), `Serve` (the output frames), `RingText` (what
+//! serving a ring image prints), `Commands` and `Run` (what a run writes with which status).
 #![tactic(auto)]
 
 mod commands;
-mod devices;
-#[cfg(test)]
-mod frame_tests;
-mod frames;
-mod headers;
-mod images;
 #[cfg(test)]
 mod malformed_tests;
-#[cfg(test)]
-mod pending_tests;
-mod pendings;
-mod queue_devices;
-mod responding;
 #[cfg(test)]
 mod ring_chain_tests;
 #[cfg(test)]

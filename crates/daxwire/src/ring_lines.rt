@@ -5,9 +5,9 @@ ghost use Rattle.hex.specs.Hex.{encode_lower};
 ghost use Rattle.sha2.specs.Sha256.{sha256};
 ghost use Rattle.fuse_codec.specs.Replies.{answer_form};
 ghost use Rattle.fuse_codec.specs.Reading.{message_of};
-ghost use Rattle.fuse_device.specs.Steps.{header_at};
+ghost use Rattle.dax_device.specs.Answers.{IsAnswer, read_form, reply_in};
 ghost use Rattle.daxwire.specs.Show.{chain_line};
-ghost use Rattle.daxwire.specs.RingText.{heading, read_form, reply_in, line_of_read, answer_line, lines_of, IsAnswer, fault_name, last_line};
+ghost use Rattle.daxwire.specs.RingText.{heading, line_of_read, answer_line, lines_of, fault_name, last_line};
 ghost use Rattle.vring.specs.Pieces.{total};
 
 use crate::shows::{put, put_chain, put_number};
@@ -39,7 +39,7 @@ fn put_heading(chain: &Chain, out: &mut Vec<u8>) -> Result<(), Memory>
 
 // The number of an operation as whose reply an answer to this one is read: the same, or where it has
 // no reply one whose reply is a header alone.
-#[tactic(auto, unfolding(crate::specs::RingText::read_form))]
+#[tactic(auto, unfolding(dax_device::specs::Answers::read_form))]
 fn read_as(opcode: u32) -> u32
     ensures { answer_form result ≡ Some (read_form opcode) }
 {
@@ -50,7 +50,7 @@ fn read_as(opcode: u32) -> u32
 }
 
 // Adds the line of a reply to the request whose header is at the front of the readable bytes.
-#[tactic(auto, unfolding(crate::specs::RingText::reply_in, crate::specs::RingText::line_of_read, fuse_wire::specs::Records::in_header_of))]
+#[tactic(auto, unfolding(dax_device::specs::Answers::reply_in, crate::specs::RingText::line_of_read, fuse_wire::specs::Records::in_header_of))]
 fn put_reply(alloc: Global, readable: &[u8], reply: &[u8], out: &mut Vec<u8>) -> Result<(), Memory>
     requires header { 40 ≤ length readable.now }
     requires small { length reply.now < 2 ^ 32 }

@@ -3,15 +3,15 @@ ghost use Rattle.std.specs.Io.KnownBytes.{Appends, Keeps, IsAtEnd};
 ghost use Rattle.plain_file.specs.Counts.{Rose};
 ghost use Rattle.dax_script.specs.Causes.{AppendsPart, TakesAtMost, buffer};
 ghost use Rattle.dax_script.specs.declared.statuses.Status.{Status};
-ghost use Rattle.daxwire.specs.Frames.{limit};
-ghost use Rattle.daxwire.specs.Courses.{Writes};
-ghost use Rattle.daxwire.specs.Run.{IfFinished, IsOkOrMemory};
+ghost use Rattle.chain_stream.specs.Frames.{limit};
+ghost use Rattle.chain_stream.specs.Courses.{Writes};
+ghost use Rattle.dax_script.specs.Runs.{IsOkOrMemory};
+ghost use Rattle.daxwire.specs.Run.{IfFinished};
 ghost use Rattle.daxwire.specs.RingText.{all_served, left_by, image_due, ring_text, ring_status, IsAnswered};
 
-use crate::images::open_image;
-use crate::queue_devices::{QueueDevice, Turn};
-use crate::ring_lines::{put_digest, put_fault};
+use crate::ring_lines::{put_chain_lines, put_digest, put_fault};
 use crate::shows::put;
+use dax_device::{QueueDevice, Turn, open_image};
 use dax_script::{ReadError, Sink, Source, Status, read_all, write_all};
 use plain_file::{Blob, Memory};
 use std::alloc::Global;
@@ -34,8 +34,14 @@ fn serve_offered(
     let mut readable = Vec::new(alloc);
     let count = device.offered();
     for _turn in 0..count {
-        match device.serve_next(alloc, &mut chain, &mut readable, out)? {
-            Turn::Served => {}
+        match device.serve_next(alloc, &mut chain, &mut readable)? {
+            Turn::Served(answer) => put_chain_lines(
+                alloc,
+                &chain,
+                &readable,
+                answer.as_slice(),
+                out,
+            )?,
             Turn::Idle => return Ok(None),
             Turn::Fault(fault) => return Ok(Some(fault)),
         }

@@ -1,25 +1,20 @@
 ghost use Rattle.std.specs.Prelude.{◌≡◌, ◌≢◌, ◌≤◌, ◌+◌, ℕ, List, None, Some, IfSome};
-ghost use Rattle.std.specs.Io.KnownBytes.{Appends, Consumes, IsAtEnd};
+ghost use Rattle.std.specs.Io.KnownBytes.{Appends, IsAtEnd};
 ghost use Rattle.plain_file.specs.Counts.{Rose};
 ghost use Rattle.dax_script.specs.Causes.{AppendsFront, AppendsPart, TakesAtMost};
+ghost use Rattle.dax_script.specs.Runs.{IsOkOrMemory, IsUsageOrWriteFault};
 ghost use Rattle.dax_script.specs.declared.statuses.Status.{Status};
-ghost use Rattle.daxwire.specs.declared.frames.End.{End};
-ghost use Rattle.daxwire.specs.Frames.{limit};
-ghost use Rattle.daxwire.specs.Courses.{Ends, IsCutOff, chunk, course_by};
-ghost use Rattle.daxwire.specs.Show.{end_line};
+ghost use Rattle.chain_stream.specs.Frames.{limit};
+ghost use Rattle.chain_stream.specs.Courses.{IsCutOff, chunk};
 ghost use Rattle.daxwire.specs.Commands.{command_of};
-ghost use Rattle.daxwire.specs.Run.{usage_line, shown, due_text, due_status, IsStopped, IfFinished, IsUsageOrWriteFault, IsOkOrMemory};
+ghost use Rattle.daxwire.specs.Run.{usage_line, shown, due_text, due_status, IsStopped, IfFinished};
 
 use crate::commands::Command;
-use crate::devices::Device;
-use crate::frames::{End, Reason};
-use crate::headers::read_header;
-use crate::pendings::{FillError, Pending};
-use crate::responding::{Responder, end_stream, respond};
 use crate::rings::ring;
+use crate::serves::Serve;
 use crate::shows::Show;
+use chain_stream::answer_stream;
 use dax_script::{Sink, Source, Status, Word, write_all};
-use plain_file::Memory;
 use std::alloc::Global;
 
 /// Runs the program. With the word `show` it reads a chain stream from the source and writes one line
@@ -67,7 +62,7 @@ pub fn run_wire<S: Source, K: Sink>(
 {
     match Command::of(words) {
         Some(Command::Show) => answer_stream::<Show, S, K>(alloc, source, sink),
-        Some(Command::Serve) => answer_stream::<Device, S, K>(alloc, source, sink),
+        Some(Command::Serve) => answer_stream::<Serve, S, K>(alloc, source, sink),
         Some(Command::Ring) => ring(alloc, source, sink),
         None => tell_usage(sink),
     }
@@ -82,34 +77,5 @@ fn tell_usage<K: Sink>(sink: &mut K) -> Status
     match write_all(sink, b"usage: daxwire show | serve | ring | audit\n") {
         Ok(()) => Status::Usage,
         Err(_) => Status::WriteFault,
-    }
-}
-
-// Answers a stream from its header on.
-fn answer_stream<R: Responder + Drop, S: Source, K: Sink>(
-    alloc: Global,
-    source: &mut S,
-    sink: &mut K,
-) -> Status
-    ensures ends { Ends (course_by R.starting) R.ending (S.left source.old) (S.left source.new) (K.taken sink.old) (K.taken sink.new) (S.faults source.old) (S.faults source.new) (K.faults sink.old) (K.faults sink.new) result }
-    ensures most { TakesAtMost (limit + chunk) (S.left source.old) (S.left source.new) }
-{
-    R::quiet_at_start();
-    let mut pending = Pending::new(alloc);
-    match read_header(&mut pending, source) {
-        Ok(Some(pages)) => match R::start(alloc, pages) {
-            Ok(mut responder) => respond(alloc, &mut responder, &mut pending, source, sink),
-            Err(Memory) => Status::Memory,
-        },
-        Ok(None) => end_stream::<R, K>(
-            End::Malformed {
-                reason: Reason::Header,
-                at: 0,
-            },
-            &mut Vec::new(alloc),
-            sink,
-        ),
-        Err(FillError::Memory) => Status::Memory,
-        Err(FillError::Failed) => Status::ReadFault,
     }
 }

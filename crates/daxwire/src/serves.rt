@@ -1,17 +1,22 @@
 ghost use Rattle.std.specs.Prelude.{◌≡◌, ◌≤◌, ◌++◌, ◌∷◌, [], length, IfOk, OnOk};
 ghost use Rattle.plain_file.specs.Limits.{max_part, max_transfer};
 ghost use Rattle.fuse_device.specs.Steps.{device_step};
-ghost use Rattle.daxwire.specs.Frames.{lead_len, IsBounded};
-ghost use Rattle.daxwire.specs.Serve.{Makes, chain_output, fault_output, first_world, lead_step, load_step, refusal_number, store_step};
+ghost use Rattle.chain_stream.specs.Frames.{lead_len, IsBounded};
+ghost use Rattle.daxwire.specs.Serve.{Makes, chain_output, lead_step, load_step, refusal_number, store_step};
 
-use crate::devices::Device;
-use crate::frames::{End, Lead};
-use crate::responding::Responder;
+use chain_stream::{End, Lead, Responder};
+use dax_device::Device;
 use plain_file::Memory;
 use std::alloc::Global;
 use window_access::WindowRefusal;
 
-impl Device {
+/// Answers each frame as a device does: a chain by its daemon, a load or a store by its window.
+#[derive(Debug, Drop)]
+pub struct Serve {
+    device: Device,
+}
+
+impl Serve {
     // Adds the answer to a chain.
     fn put_chain(
         &mut self,
@@ -21,9 +26,9 @@ impl Device {
         out: &mut Vec<u8>,
     ) -> Result<(), Memory>
         requires { length readable.now ≤ max_part }
-        ensures { OnOk result (Makes (chain_output (device_step self.old readable.now room)) out.old.items self.new out.new.items) }
+        ensures { OnOk result (Makes (chain_output (device_step self.old.device readable.now room)) out.old.items self.new.device out.new.items) }
     {
-        let reply = self.reply(alloc, readable, room)?;
+        let reply = self.device.reply(alloc, readable, room)?;
         out.push(1)?;
         out.extend_from_slice(&(reply.len() as u32).to_le_bytes())?;
         out.extend_from_slice(reply.as_slice())?;
@@ -40,9 +45,9 @@ impl Device {
         out: &mut Vec<u8>,
     ) -> Result<(), Memory>
         requires { len ≤ max_transfer }
-        ensures { OnOk result (Makes (load_step self.old moffset len) out.old.items self.new out.new.items) }
+        ensures { OnOk result (Makes (load_step self.old.device moffset len) out.old.items self.new.device out.new.items) }
     {
-        match self.load(alloc, moffset, len) {
+        match self.device.load(alloc, moffset, len) {
             Ok(bytes) => {
                 out.extend_from_slice(&[2, 0])?;
                 out.extend_from_slice(&len.to_le_bytes())?;
@@ -67,9 +72,9 @@ impl Device {
         out: &mut Vec<u8>,
     ) -> Result<(), Memory>
         requires { length bytes.now ≤ max_transfer }
-        ensures { OnOk result (Makes (store_step self.old moffset bytes.now) out.old.items self.new out.new.items) }
+        ensures { OnOk result (Makes (store_step self.old.device moffset bytes.now) out.old.items self.new.device out.new.items) }
     {
-        match self.store(alloc, moffset, bytes) {
+        match self.device.store(alloc, moffset, bytes) {
             Ok(()) => {
                 out.extend_from_slice(&[3, 0])?;
                 Ok(())
@@ -83,7 +88,7 @@ impl Device {
     }
 
     // Adds the answer to a whole frame.
-    #[tactic(auto, unfolding(crate::specs::Serve::lead_step, crate::specs::Frames::lead_len, crate::specs::Frames::IsBounded))]
+    #[tactic(auto, unfolding(crate::specs::Serve::lead_step, chain_stream::specs::Frames::lead_len, chain_stream::specs::Frames::IsBounded))]
     fn put_frame(
         &mut self,
         alloc: Global,
@@ -93,7 +98,7 @@ impl Device {
     ) -> Result<(), Memory>
         requires bounded { IsBounded lead }
         requires whole { lead_len lead ≡ length bytes.now }
-        ensures { OnOk result (Makes (lead_step self.old lead bytes.now) out.old.items self.new out.new.items) }
+        ensures { OnOk result (Makes (lead_step self.old.device lead bytes.now) out.old.items self.new.device out.new.items) }
     {
         match lead {
             Lead::Chain { parts, room, .. } => {
@@ -125,18 +130,20 @@ fn number_of(refusal: WindowRefusal) -> u8
     }
 }
 
-/// Serves each frame: a chain by the daemon, a load or a store by its window.
-impl Responder for Device {
-    ghost use Rattle.daxwire.specs.Serve.{first_world, outputs, fault_output};
+impl Responder for Serve {
+    ghost use Rattle.dax_device.specs.Devices.{first_world};
+    ghost use Rattle.daxwire.specs.Serve.{outputs, fault_output};
 
-    ghost says = { outputs };
+    ghost says = { λ s. outputs s.device };
 
     ghost starting = { λ pages. outputs (first_world pages) };
 
     ghost ending = { fault_output };
 
-    fn start(alloc: Global, pages: u32) -> Result<Device, Memory> {
-        Device::new(alloc, pages)
+    fn start(alloc: Global, pages: u32) -> Result<Serve, Memory> {
+        Ok(Serve {
+            device: Device::new(alloc, pages)?,
+        })
     }
 
     #[tactic(auto, unfolding(crate::specs::Serve::outputs))]

@@ -1,12 +1,11 @@
 ghost use Rattle.std.specs.Prelude.{◌≡◌, ◌≤◌, ◌++◌, length, OnOk};
 ghost use Rattle.std.specs.Fmt.{decimal};
 ghost use Rattle.plain_file.specs.Limits.{max_part};
-ghost use Rattle.daxwire.specs.Frames.{lead_len, IsBounded};
+ghost use Rattle.chain_stream.specs.Frames.{lead_len, IsBounded};
 ghost use Rattle.daxwire.specs.Show.{chain_line, lead_line, end_line};
 ghost use Rattle.fuse_codec.specs.Reading.{message_of};
 
-use crate::frames::{End, Lead};
-use crate::responding::Responder;
+use chain_stream::{End, Lead, Responder};
 use fuse_codec::{BadRequest, decode_request};
 use fuse_text::{put_bad_line, put_field, put_hex_field, put_line};
 use itoa::Buffer;
@@ -65,7 +64,7 @@ impl Responder for Show {
 }
 
 // Adds the line of a whole frame.
-#[tactic(auto, unfolding(crate::specs::Show::lead_line, crate::specs::Frames::lead_len, crate::specs::Frames::IsBounded))]
+#[tactic(auto, unfolding(crate::specs::Show::lead_line, chain_stream::specs::Frames::lead_len, chain_stream::specs::Frames::IsBounded))]
 fn put_frame(alloc: Global, lead: Lead, bytes: &[u8], out: &mut Vec<u8>) -> Result<(), Memory>
     requires bounded { IsBounded lead }
     requires whole { lead_len lead ≡ length bytes.now }

@@ -1,7 +1,7 @@
 ghost use Rattle.std.specs.Prelude.{◌≡◌, ◌+◌, ◌*◌, ◌%◌, ◌^◌, ◌<◌, ◌≤◌, ◌==◌, length, true, Ok, Some, None, IfOk, IfSome};
 ghost use Rattle.vring.specs.Bytes.{u16_at, max_memory};
 ghost use Rattle.vring.specs.Layout.{IsLayout};
-ghost use Rattle.vring.specs.Chain.{chain_at, ChainLiesIn};
+ghost use Rattle.vring.specs.Chain.{ahead, chain_at, ChainLiesIn};
 ghost use Rattle.vring.specs.Ring.{Finds, Pops, PopsInto, RingView, new_ring, next_index, used_pushed};
 
 use crate::chains::Chain;
@@ -110,6 +110,15 @@ impl Ring {
         ensures fits { self.now.seen < 2 ^ 16 }
     {
         self.seen
+    }
+
+    /// How many chains are offered now: so far is the available index in the memory ahead of the seen
+    /// one, modulo 2^16. It may be more than the ring has places, where [`Ring::pop`] finds a fault.
+    pub fn offered(&self, mem: &GuestMem) -> u16
+        requires { length mem.now ≡ self.now.layout.memory }
+        ensures { result ≡ ahead (u16_at mem.now (self.now.layout.available + 2)) self.now.seen }
+    {
+        read_u16(mem.as_slice(), self.layout.available + 2).wrapping_sub(self.seen)
     }
 
     /// How many chains were pushed, from `start` on and modulo 2^16.

@@ -1,5 +1,5 @@
 use Rattle.std.proofs.Common.{sym}
-use Rattle.daxwire.proofs.DeviceAnswers.{read_form_none}
+use Rattle.daxwire.proofs.ReadForms.{read_form_none}
 use Rattle.daxwire.proofs.ring_lines.read_as.Goals as goal
 
 pub returns-in-None : goal.returns-in-None

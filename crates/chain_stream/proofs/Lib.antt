@@ -1,0 +1,10 @@
+pub mod Answering
+pub mod Bounds
+pub mod CourseLaws
+pub mod Following
+pub mod FrameSteps
+pub mod HeaderLaws
+pub mod Reading
+pub mod Stable
+pub mod StreamEnds
+pub mod Sums

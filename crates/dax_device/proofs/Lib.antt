@@ -1,0 +1,3 @@
+pub mod DeviceAnswers
+pub mod RingImages
+pub mod Serving

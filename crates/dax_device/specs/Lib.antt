@@ -1,0 +1,4 @@
+pub mod Answers
+pub mod Devices
+pub mod Queues
+pub mod RingImage

@@ -1,9 +1,0 @@
--- How much of a stream is read.
-use Rattle.std.proofs.Common.{◌≡◌, ◌+◌, List, [], Option, ℕ, arith}
-use Rattle.dax_script.specs.Causes.{TakesAtMost}
-use Rattle.daxwire.specs.Frames.{limit}
-use Rattle.daxwire.specs.Courses.{PendingView, Took, chunk}
-
--- what was read is bounded
-pub most_of : (p p' : PendingView) (left left' : Option (List ℕ)) → p ≡ record { rest = []; at = 0 } → Took p p' left left' → TakesAtMost (limit + chunk) left left'
-most_of p p' left left' e t = (t.read, t.consumed, omega (arith, t.counted, t.within))

@@ -1,6 +1,0 @@
-use Rattle.fuse_device.specs.Promises.{world}
-use Rattle.daxwire.proofs.Serving.{names_of_board}
-use Rattle.daxwire.proofs.devices.Device.load.Goals as goal
-
-pub load_window-requires-clause-names : goal.load_window-requires-clause-names
-load_window-requires-clause-names c = names_of_board (world c.self.inside.daemon c.self.inside.files c.self.inside.map) c.self.invariant

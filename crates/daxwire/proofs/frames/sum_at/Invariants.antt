@@ -1,6 +1,0 @@
-use Rattle.std.proofs.Common.{◌≡◌, ◌≤◌, ◌*◌, sum}
-use Rattle.daxwire.specs.Frames.{lengths_at}
-use Rattle.daxwire.proofs.frames.sum_at.Given as goal
-
-abbrev pub invariant-loop-k : goal.invariant-loop-k
-invariant-loop-k l = record { value : l.total ≡ sum (lengths_at l.bytes l.first l.k); small : l.total ≤ l.k * 4294967296 }
