@@ -158,8 +158,8 @@ const NAMES: [(&str, usize, &str, bool); 11] = [
     ("", 1, "00 62", false),
 ];
 
-// A REMOVEMAPPING's number of intervals, a WRITE's `size` and a BATCH_FORGET's number of pairs, each with
-// how many bytes follow, and whether they are as many. 65,789 is 0x100fd.
+// A REMOVEMAPPING with its number of intervals, a WRITE with its `size` and a BATCH_FORGET with its number
+// of pairs, each with how many bytes follow, and whether they are as many. 65,789 is 0x100fd.
 const COUNTED: [(u32, &str, usize, bool); 33] = [
     (49, "00000000", 0, true),
     (49, "00000000", 16, false),
@@ -174,39 +174,77 @@ const COUNTED: [(u32, &str, usize, bool); 33] = [
     (49, "ffffffff", 0, false),
     (49, "00000001", 0, false),
     (49, "000000", 0, false),
-    (16, "00000000", 0, true),
-    (16, "01000000", 0, false),
-    (16, "00000000", 1, false),
-    (16, "01000000", 1, true),
-    (16, "02000000", 1, false),
-    (16, "00001000", 1048576, true),
-    (16, "00001000", 1048575, false),
-    (16, "00001000", 1048577, false),
-    (16, "01001000", 1048577, false),
-    (16, "ffffffff", 3, false),
-    (42, "00000000", 0, true),
-    (42, "00000000", 16, false),
-    (42, "01000000", 16, true),
-    (42, "01000000", 15, false),
-    (42, "02000000", 16, false),
-    (42, "01000000", 32, false),
-    (42, "01000010", 16, false),
-    (42, "fd000100", 1052624, true),
-    (42, "fe000100", 1052624, false),
-    (42, "fc000100", 1052624, false),
+    (
+        16,
+        "0000000000000000 0000000000000000 00000000 00000000 0000000000000000 00000000 00000000",
+        0,
+        true,
+    ),
+    (
+        16,
+        "0000000000000000 0000000000000000 01000000 00000000 0000000000000000 00000000 00000000",
+        0,
+        false,
+    ),
+    (
+        16,
+        "0000000000000000 0000000000000000 00000000 00000000 0000000000000000 00000000 00000000",
+        1,
+        false,
+    ),
+    (
+        16,
+        "0000000000000000 0000000000000000 01000000 00000000 0000000000000000 00000000 00000000",
+        1,
+        true,
+    ),
+    (
+        16,
+        "0000000000000000 0000000000000000 02000000 00000000 0000000000000000 00000000 00000000",
+        1,
+        false,
+    ),
+    (
+        16,
+        "0000000000000000 0000000000000000 00001000 00000000 0000000000000000 00000000 00000000",
+        1048576,
+        true,
+    ),
+    (
+        16,
+        "0000000000000000 0000000000000000 00001000 00000000 0000000000000000 00000000 00000000",
+        1048575,
+        false,
+    ),
+    (
+        16,
+        "0000000000000000 0000000000000000 00001000 00000000 0000000000000000 00000000 00000000",
+        1048577,
+        false,
+    ),
+    (
+        16,
+        "0000000000000000 0000000000000000 01001000 00000000 0000000000000000 00000000 00000000",
+        1048577,
+        false,
+    ),
+    (
+        16,
+        "0000000000000000 0000000000000000 ffffffff 00000000 0000000000000000 00000000 00000000",
+        3,
+        false,
+    ),
+    (42, "00000000 00000000", 0, true),
+    (42, "00000000 00000000", 16, false),
+    (42, "01000000 00000000", 16, true),
+    (42, "01000000 00000000", 15, false),
+    (42, "02000000 00000000", 16, false),
+    (42, "01000000 00000000", 32, false),
+    (42, "01000010 00000000", 16, false),
+    (42, "fd000100 00000000", 1052624, true),
+    (42, "fe000100 00000000", 1052624, false),
+    (42, "fc000100 00000000", 1052624, false),
 ];
-
-// What stands before and behind the number.
-fn around_count(opcode: u32) -> (&'static str, &'static str) {
-    match opcode {
-        16 => (
-            "0000000000000000 0000000000000000",
-            "00000000 0000000000000000 00000000 00000000",
-        ),
-        42 => ("", "00000000"),
-        _ => ("", ""),
-    }
-}
 
 // The operation, and how many bytes its record has: one fewer and one more are none.
 const RECORDS: [(u32, usize); 15] = [
@@ -236,10 +274,8 @@ fn bodies_at_their_bounds(rt: HostRuntime) -> Result<(), Fail> {
         let made = format!(in alloc; "c1000000 a4010000 12000000 00000000 {front}")?;
         check_body(&rt, alloc, 35, (made.as_str(), count, back), is_name)?;
     }
-    for (opcode, number, count, is_one) in COUNTED {
-        let (before, behind) = around_count(opcode);
-        let front = format!(in alloc; "{before} {number} {behind}")?;
-        check_body(&rt, alloc, opcode, (front.as_str(), count, ""), is_one)?;
+    for (opcode, front, count, is_one) in COUNTED {
+        check_body(&rt, alloc, opcode, (front, count, ""), is_one)?;
     }
     for (opcode, size) in RECORDS {
         check_body(&rt, alloc, opcode, ("", size.wrapping_sub(1), ""), false)?;

@@ -2,7 +2,7 @@ use super::*;
 
 // The entries "a" of node 2 and "file-two!" of node 3, with seven bytes of filler each, and how they are
 // shown.
-const ENTRIES: &str =
+pub(super) const ENTRIES: &str =
     "0200000000000000 0100000000000000 01000000 08000000 61 00000000000000 0300000000000000 0200000000000000 09000000 08000000 66696c652d74776f21 00000000000000";
 
 // The same with other filler.
@@ -111,22 +111,5 @@ fn names_of_entries(rt: HostRuntime) -> Result<(), Fail> {
             ),
         }
     }
-    Ok(())
-}
-
-// Behind bytes that are there, into room for one entry and no more.
-#[test]
-fn an_entry_into_room(rt: HostRuntime) -> Result<(), Fail> {
-    let alloc = rt.alloc();
-    let bytes = bytes_of(alloc, ENTRIES)?;
-    let names = read_dirents(alloc, &bytes)?;
-    let mut out = Vec::with_capacity(alloc, 72)?;
-    out.extend_from_slice(&bytes[..32.min(bytes.len())])?;
-    let Some(second) = names.get(1) else {
-        panic!(rt; "no entry")
-    };
-    assert!(rt; out.len() + second.len() <= out.capacity());
-    put_dirent(&mut out, second);
-    assert!(rt; out == bytes);
     Ok(())
 }

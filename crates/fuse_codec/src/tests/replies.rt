@@ -115,15 +115,7 @@ const FORMS: [Form; 14] = [
     },
 ];
 
-// What bytes are decoded as, or the reason against them.
-fn answer_said(rt: &impl Abort, alloc: Global, opcode: u32, bytes: &[u8]) -> Result<String, Fail> {
-    assert!(rt; answer_form(opcode).is_some() && bytes.len() < 4_294_967_296);
-    match decode_reply(alloc, opcode, bytes) {
-        Ok((unique, reply)) => Ok(format!(in alloc; "{unique} {reply:?}")?),
-        Err(bad) => Ok(format!(in alloc; "{bad}")?),
-    }
-}
-
+// Asserts what bytes are decoded as, with the number first, or the reason against them.
 fn check_answer(
     rt: &impl Abort,
     alloc: Global,
@@ -131,7 +123,12 @@ fn check_answer(
     bytes: &[u8],
     wanted: &str,
 ) -> Result<(), Fail> {
-    assert_eq!(rt; answer_said(rt, alloc, opcode, bytes)?.as_str(), wanted);
+    assert!(rt; answer_form(opcode).is_some() && bytes.len() < 4_294_967_296);
+    let said = match decode_reply(alloc, opcode, bytes) {
+        Ok((unique, reply)) => format!(in alloc; "{unique} {reply:?}")?,
+        Err(bad) => format!(in alloc; "{bad}")?,
+    };
+    assert_eq!(rt; said.as_str(), wanted, "at {opcode}");
     Ok(())
 }
 
@@ -366,9 +363,9 @@ fn which_replies_fit(rt: HostRuntime) -> Result<(), Fail> {
     Ok(())
 }
 
-// Behind bytes that are there, into room for one reply and no more.
+// Behind bytes that are there, into room for one reply or one entry and no more.
 #[test]
-fn a_reply_into_room(rt: HostRuntime) -> Result<(), Fail> {
+fn into_room(rt: HostRuntime) -> Result<(), Fail> {
     let alloc = rt.alloc();
     let reply = Reply::Wrote(WriteOut { size: 3 });
     let mut out = Vec::with_capacity(alloc, 26)?;
@@ -377,5 +374,15 @@ fn a_reply_into_room(rt: HostRuntime) -> Result<(), Fail> {
     put_reply(&mut out, &reply, u64::MAX);
     let want = "6162 18000000 00000000 ffffffffffffffff 03000000 00000000";
     assert!(rt; out == bytes_of(alloc, want)?);
+    let bytes = bytes_of(alloc, dirents::ENTRIES)?;
+    let names = read_dirents(alloc, &bytes)?;
+    let mut out = Vec::with_capacity(alloc, 72)?;
+    out.extend_from_slice(&bytes[..32.min(bytes.len())])?;
+    let Some(second) = names.get(1) else {
+        panic!(rt; "no entry")
+    };
+    assert!(rt; out.len() + second.len() <= out.capacity());
+    put_dirent(&mut out, second);
+    assert!(rt; out == bytes);
     Ok(())
 }
