@@ -7,6 +7,7 @@ pub mod Steps
 pub mod ScriptWords
 pub mod ScriptText
 pub mod Halts
+pub mod Totals
 pub mod ScriptPrinted
 pub mod Fits
 pub mod Runs
