@@ -15,6 +15,7 @@ ghost use Rattle.guest_wire.specs.Answers.{Answers, SaysItself, JudgesOrNot, IsS
 
 use crate::wires::{Wire, WireError, WireRefusal};
 use fuse_codec::{BadReply, Head, Message, Opcode, Reply, Request, decode_reply, encode_request};
+use fuse_device::wanted_room;
 use page_map::MapBoard;
 use plain_file::{Blob, FileBoard};
 use std::alloc::Global;
@@ -103,7 +104,7 @@ impl<W> Driver<W> {
     {
         let message = message_of(unique, node, body);
         let request = encode_request(alloc, &message)?;
-        let room = wanted_room(&message.body);
+        let room = wanted_room(&message.body) as u32;
         match self
             .wire
             .submit(rt, alloc, request.as_slice(), room, files, map)
@@ -127,14 +128,6 @@ fn message_of(unique: u64, node: u64, body: Request) -> Message
         pid: 0,
     };
     Message { head, body }
-}
-
-// The room that the reply to a request wants.
-fn wanted_room(body: &Request) -> u32
-    requires room { wanted_room body.now ≤ max_part }
-    ensures { result ≡ wanted_room body.now }
-{
-    body.room().unwrap_or(16) as u32
 }
 
 // What bytes say to a message: a success, or why they are none.

@@ -33,6 +33,6 @@ returns-in-Ok-clause-answer g c =
     let after = c.submit.new.self in
     let bytes : c.as_slice.result.now ≡ clean_message n = c.as_slice.ensures ∙ c.in_ok-request.ensures.clean in
     let spelled = subst (λ b. Spells n b) (sym c.as_slice.ensures) c.in_ok-request.ensures.spelled in
-    let came = is_sent g.W.Wire.wire g.W.Wire.gives before old m n c.as_slice.result.now c.wanted_room-room.result (Ok c.in-Ok.bytes) after new is bytes spelled c.wanted_room-room.ensures c.in-Ok.ensures.given c.in-Ok.ensures.honest in
+    let came = is_sent g.W.Wire.wire g.W.Wire.gives before old m n c.as_slice.result.now c.wanted_room-room.result (Ok c.in-Ok.bytes) after new is bytes spelled c.wanted_room-room.ensures.value c.in-Ok.ensures.given c.in-Ok.ensures.honest in
     answers_heard g.W.Wire.wire g.W.Wire.gives before old m c.in-Ok.bytes c.hear.result after new c.requires.answered came
     (subst (λ (x : Message). JudgesOrNot (heard x c.in-Ok.bytes) c.in-Ok.bytes c.hear.result) is c.hear.ensures.heard)
