@@ -1,9 +1,10 @@
-ghost use Rattle.std.specs.Prelude.{◌≡◌, ◌≤◌, ◌<◌, ◌+◌, ◌^◌, ◌++◌, ℕ, List, [], length, drop, Ok, IfOk, OnErr, IsErrOf};
+ghost use Rattle.std.specs.Prelude.{◌≡◌, ◌≤◌, ◌<◌, ◌+◌, ◌-◌, ◌^◌, ◌++◌, ℕ, List, [], length, drop, take, Ok, IfOk, OnErr, OnOk, IsErrOf};
 ghost use Rattle.std.specs.Io.KnownBytes.{Consumes, IsAtEnd};
 ghost use Rattle.plain_file.specs.Counts.{Rose};
 ghost use Rattle.chain_stream.specs.Courses.{PendingView, chunk};
 
 use dax_script::Source;
+use plain_file::Memory;
 use std::alloc::Global;
 use std::marker::Model;
 use thiserror::Error;
@@ -26,20 +27,22 @@ pub enum FillError {
 /// of bytes that were used is used again.
 #[derive(Debug, Drop)]
 pub struct Pending {
-    bytes: Vec<u8>,
+    // The bytes stand in it from `start` to `end`.
+    buffer: Vec<u8>,
     start: usize,
+    end: usize,
     at: u64,
 }
 
 impl Model for Pending {
-    ghost use Rattle.std.specs.Prelude.{◌≤◌, drop, length};
+    ghost use Rattle.std.specs.Prelude.{◌≤◌, drop, length, take};
     ghost use Rattle.chain_stream.specs.Courses.{PendingView};
 
     ghost Value = { PendingView };
 
-    ghost view = { λ p. record { rest = drop p.start p.bytes.items; at = p.at } };
+    ghost view = { λ p. record { rest = drop p.start (take p.end p.buffer.items); at = p.at } };
 
-    ghost invariant = { λ p. p.start ≤ length p.bytes.items };
+    ghost invariant = { λ p. (p.start ≤ p.end) × (p.end ≤ length p.buffer.items) };
 }
 
 impl Pending {
@@ -48,8 +51,9 @@ impl Pending {
         ensures { result ≡ record { rest = []; at = 0 } }
     {
         Pending {
-            bytes: Vec::new(alloc),
+            buffer: Vec::new(alloc),
             start: 0,
+            end: 0,
             at: 0,
         }
     }
@@ -58,7 +62,7 @@ impl Pending {
     pub fn rest(&self) -> &[u8]
         ensures { result.now ≡ self.now.rest }
     {
-        self.bytes.split_at(self.start).1
+        self.buffer.split_at(self.end).0.split_at(self.start).1
     }
 
     /// The offset of the first of them in the input.
@@ -89,46 +93,58 @@ impl Pending {
         ensures failed { IsErrOf result FillError.Failed → Rose (S.faults source.old) (S.faults source.new) }
         ensures later { S.faults source.old ≤ S.faults source.new }
     {
-        if self.start > 0 {
-            remove_front(&mut self.bytes, self.start);
-            self.start = 0;
-        }
-        read_more(&mut self.bytes, source)
+        move_to_front(&mut self.buffer, self.start, self.end);
+        self.end -= self.start;
+        self.start = 0;
+        let n = read_behind(&mut self.buffer, self.end, source)?;
+        self.end += n;
+        Ok(n)
     }
 }
 
-// Reads once from a source, behind these bytes.
-fn read_more<S: Source>(bytes: &mut Vec<u8>, source: &mut S) -> Result<usize, FillError>
-    requires { length bytes.old.items ≤ 2 ^ 32 }
-    ensures bytes { (read : List ℕ) × (bytes.new.items ≡ bytes.old.items ++ read) × Consumes (S.left source.old) (S.left source.new) read × (length read ≤ chunk) }
-    ensures count { IfOk result (λ n. length bytes.new.items ≡ length bytes.old.items + n) }
+// Moves the bytes from `start` to `end` to the front.
+fn move_to_front(buffer: &mut Vec<u8>, start: usize, end: usize)
+    requires order { start ≤ end }
+    requires within { end ≤ length buffer.old.items }
+    ensures moved { take (end - start) buffer.new.items ≡ drop start (take end buffer.old.items) }
+    ensures len { length buffer.new.items ≡ length buffer.old.items }
+{
+    if start > 0 {
+        buffer.copy_within(start..end, 0);
+    }
+}
+
+// Makes a buffer as long as this, where it is shorter: what stands in it stays.
+fn make_room(buffer: &mut Vec<u8>, len: usize) -> Result<(), Memory>
+    ensures room { OnOk result (len ≤ length buffer.new.items) }
+    ensures longer { length buffer.old.items ≤ length buffer.new.items }
+    ensures same { (n : ℕ) → n ≤ length buffer.old.items → take n buffer.new.items ≡ take n buffer.old.items }
+{
+    if buffer.len() < len {
+        buffer.resize(len, 0)?;
+    }
+    Ok(())
+}
+
+// Reads once from a source, into a buffer behind its first `end` bytes.
+fn read_behind<S: Source>(
+    buffer: &mut Vec<u8>,
+    end: usize,
+    source: &mut S,
+) -> Result<usize, FillError>
+    requires within { end ≤ length buffer.old.items }
+    requires small { end ≤ 2 ^ 32 }
+    ensures bytes { (read : List ℕ) × (take (end + length read) buffer.new.items ≡ take end buffer.old.items ++ read)
+        × Consumes (S.left source.old) (S.left source.new) read × (length read ≤ chunk) × IfOk result (λ n. n ≡ length read) × OnErr result (read ≡ []) × (end + length read ≤ length buffer.new.items) }
     ensures end { result ≡ Ok 0 → IsAtEnd (S.left source.new) }
-    ensures none { OnErr result (bytes.new.items ≡ bytes.old.items) }
     ensures failed { IsErrOf result FillError.Failed → Rose (S.faults source.old) (S.faults source.new) }
     ensures later { S.faults source.old ≤ S.faults source.new }
 {
-    let len = bytes.len();
-    if bytes.resize(len + CHUNK, 0).is_err() {
+    if make_room(buffer, end + CHUNK).is_err() {
         return Err(FillError::Memory);
     }
-    match source.read(&mut bytes[len..]) {
-        Ok(n) => {
-            bytes.truncate(len + n);
-            Ok(n)
-        }
-        Err(_) => {
-            bytes.truncate(len);
-            Err(FillError::Failed)
-        }
+    match source.read(&mut buffer[end..end + CHUNK]) {
+        Ok(n) => Ok(n),
+        Err(_) => Err(FillError::Failed),
     }
-}
-
-/// Takes the first `n` bytes away, and keeps the room.
-pub fn remove_front(bytes: &mut Vec<u8>, n: usize)
-    requires { n ≤ length bytes.old.items }
-    ensures { bytes.new.items ≡ drop n bytes.old.items }
-{
-    let left = bytes.len() - n;
-    bytes.copy_within(n.., 0);
-    bytes.truncate(left);
 }

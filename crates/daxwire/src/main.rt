@@ -13,22 +13,24 @@
 
 mod commands;
 #[cfg(test)]
-mod malformed_tests;
-#[cfg(test)]
-mod ring_chain_tests;
-#[cfg(test)]
-mod ring_fault_tests;
+mod peer_tests;
 mod ring_lines;
+#[cfg(test)]
+mod ring_table;
 #[cfg(test)]
 mod ring_tests;
 mod rings;
-#[cfg(test)]
-mod run_tests;
 mod runs;
 #[cfg(test)]
-mod serve_tests;
+mod serve_table;
 mod serves;
+#[cfg(test)]
+mod show_table;
 mod shows;
+#[cfg(test)]
+mod stream_tests;
+#[cfg(test)]
+mod tables;
 
 use dax_script::{Status, StdSink, StdSource, command_words};
 use plain_file::Memory;
