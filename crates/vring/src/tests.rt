@@ -20,21 +20,6 @@ fn zeros(alloc: Global, len: usize) -> Result<GuestMem, Memory>
     Ok(GuestMem::new(Blob::from_vec(vec![in alloc; 0u8; len]?)))
 }
 
-// Writes the bytes of a text.
-fn write(
-    rt: &impl Abort,
-    alloc: Global,
-    mem: &mut GuestMem,
-    at: u64,
-    text: &str,
-) -> Result<(), Fail>
-    ensures { length mem.new ≡ length mem.old }
-{
-    let bytes = bytes_of(alloc, text)?;
-    assert!(rt; mem.write(at, &bytes).is_ok(), "{text} at {at}");
-    Ok(())
-}
-
 // Asserts that the memory has the bytes of a text from a place on.
 fn has(rt: &impl Abort, alloc: Global, mem: &GuestMem, at: usize, text: &str) -> Result<(), Fail> {
     let wanted = bytes_of(alloc, text)?;

@@ -405,7 +405,7 @@ enum Step {
 impl Device {
     fn step(&mut self, rt: &impl Abort, alloc: Global, step: Step) -> Result<(), Fail> {
         match step {
-            Step::Put(at, text) => write(rt, alloc, &mut self.mem, at, text),
+            Step::Put(at, text) => Ok(self.mem.write(at, &bytes_of(alloc, text)?)?),
             Step::Descriptor(index, row) => Ok(self.row(index, row)?),
             Step::Pop(wanted) => self.pops(rt, alloc, wanted),
             Step::Gather(text) => self.gather(rt, alloc, text),

@@ -38,13 +38,46 @@ impl Offering {
         assert_eq!(rt; self.driver.take_used(&self.mem), wanted);
     }
 
-    fn write(&mut self, rt: &impl Abort, alloc: Global, at: u64, text: &str) -> Result<(), Fail> {
-        write(rt, alloc, &mut self.mem, at, text)
+    // The device writes three bytes, and hands the chain back.
+    fn hand_back(&mut self, rt: &impl Abort) -> Result<(), Fail> {
+        self.mem.write(0x101080, b"xyz")?;
+        self.mem.write(90, &[1, 0, 0, 0, 0, 0, 3, 0, 0, 0])?;
+        self.takes(rt, Ok(Some(Used { head: 0, len: 3 })));
+        assert!(rt; self.driver.written(&self.mem, 3) == b"xyz".as_slice());
+        assert!(rt; self.driver.written(&self.mem, 0).is_empty());
+        Ok(())
     }
 }
 
 // At size 4 the available ring is at 64, the used ring at 88, what is read at 128, and the room 1 MiB
-// and 4 KiB behind it.
+// and 4 KiB behind it: what stands there when "abc" is offered with room for 7 bytes.
+const OFFERED: [(usize, &str); 4] = [
+    (0, "8000000000000000 03000000 0100 0100"),
+    (16, "8010100000000000 07000000 0200 0000"),
+    (64, "0000 0100 0000 0000"),
+    (128, "616263 00"),
+];
+
+// Then nothing is offered without room. Its entries are the next ones, whatever stands there.
+const OFFERED_AGAIN: [(usize, &str); 4] = [
+    (64, "0909 0200 0909 0000"),
+    (8, "00000000 0100 0100"),
+    (24, "00000000 0200 0000"),
+    (128, "616263 00"),
+];
+
+fn check_places(
+    rt: &impl Abort,
+    alloc: Global,
+    mem: &GuestMem,
+    places: &[(usize, &str)],
+) -> Result<(), Fail> {
+    for (at, text) in places.iter().copied() {
+        has(rt, alloc, mem, at, text)?;
+    }
+    Ok(())
+}
+
 #[test]
 fn offers_by_exact_bytes(rt: HostRuntime) -> Result<(), Fail> {
     powers_of_two_are_queue_sizes();
@@ -54,39 +87,15 @@ fn offers_by_exact_bytes(rt: HostRuntime) -> Result<(), Fail> {
     assert!(rt; side.mem.len() == 2_105_472 && side.mem.as_slice().iter().all(|b| *b == 0));
     side.is_at(&rt, 0, 0, None);
     side.offer(&rt, b"abc", 7);
-    has(
-        &rt,
-        alloc,
-        &side.mem,
-        0,
-        "8000000000000000 03000000 0100 0100",
-    )?;
-    has(
-        &rt,
-        alloc,
-        &side.mem,
-        16,
-        "8010100000000000 07000000 0200 0000",
-    )?;
-    has(&rt, alloc, &side.mem, 64, "0000 0100 0000 0000")?;
-    has(&rt, alloc, &side.mem, 128, "616263 00")?;
+    check_places(&rt, alloc, &side.mem, &OFFERED)?;
     side.is_at(&rt, 1, 0, Some(7));
     side.takes(&rt, Ok(None));
-    // The device writes three bytes, and hands the chain back.
-    side.write(&rt, alloc, 0x101080, "78797a")?;
-    side.write(&rt, alloc, 90, "0100 00000000 03000000")?;
-    side.takes(&rt, Ok(Some(Used { head: 0, len: 3 })));
-    assert!(rt; side.driver.written(&side.mem, 3) == b"xyz".as_slice());
-    assert!(rt; side.driver.written(&side.mem, 0).is_empty());
+    side.hand_back(&rt)?;
     side.is_at(&rt, 1, 1, None);
     side.takes(&rt, Ok(None));
-    // The second chain's entries are the next ones, whatever stands there.
-    side.write(&rt, alloc, 64, "0909090909090909")?;
+    side.mem.write(64, &[9; 8])?;
     side.offer(&rt, b"", 0);
-    has(&rt, alloc, &side.mem, 64, "0909 0200 0909 0000")?;
-    has(&rt, alloc, &side.mem, 8, "00000000 0100 0100")?;
-    has(&rt, alloc, &side.mem, 24, "00000000 0200 0000")?;
-    has(&rt, alloc, &side.mem, 128, "616263 00")
+    check_places(&rt, alloc, &side.mem, &OFFERED_AGAIN)
 }
 
 // With room for seven bytes, the used ring's index and its first entry's `id` and `len`, and what is taken.
