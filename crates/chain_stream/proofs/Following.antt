@@ -1,6 +1,6 @@
 -- What is due where no whole frame follows.
-use Rattle.std.proofs.Common.{◌≡◌, ◌∙◌, ap, sym, subst, refl, ℕ, ◌+◌, ◌<◌, ◌≤◌, true, false, true≢false, List, [], ◌++◌, length, Option, Some, None, IfSome, arith, append-nil, append_assoc, take}
-use Rattle.std.proofs.lemmas.List.{nil_from_length, take-append-le}
+use Rattle.std.proofs.Common.{◌≡◌, ◌∙◌, ap, sym, subst, refl, ℕ, ◌+◌, ◌<◌, ◌≤◌, true, false, true≢false, List, [], ◌++◌, length, Option, Some, None, IfSome, arith, append-nil}
+use Rattle.std.proofs.lemmas.List.{nil_from_length}
 use Rattle.std.proofs.lemmas.Grind.{common_steps}
 use Rattle.std.proofs.KnownBytes.{Appends-nil}
 use Rattle.std.specs.Io.KnownBytes.{Appends, Consumes, IsAtEnd}

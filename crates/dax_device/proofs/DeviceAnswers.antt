@@ -1,13 +1,10 @@
 -- What the device behind a queue rests on: each answer is read as a reply, and what is gathered and scattered has room.
-use Rattle.std.proofs.Common.{◌≡◌, ◌∙◌, refl, ap, arith, ◌≤◌, ℕ, ◌+◌, List, [], ◌∷◌, ◌++◌, length, drop, Some, None, Result, Ok, Err, inl, inr}
+use Rattle.std.proofs.Common.{◌≡◌, refl, ap, arith, ◌≤◌, ℕ, ◌+◌, List, [], ◌∷◌, ◌++◌, length, drop, Result, Ok, Err, inl, inr}
 use Rattle.std.specs.Prelude.{IsOk}
 use Rattle.std.proofs.lemmas.List.Sums.{sum_by-cons}
 use Rattle.std.proofs.lemmas.List.{length-take, length-append}
 use Rattle.plain_file.specs.Limits.{max_part}
 use Rattle.fuse_wire.proofs.Laws.{IsBytes}
-use Rattle.fuse_codec.specs.Opcodes.{number, opcode_of, reply_form}
-use Rattle.fuse_codec.specs.Replies.{answered, answer_form}
-use Rattle.fuse_codec.specs.declared.opcodes.ReplyForm.TheVariants as forms
 use Rattle.fuse_device.specs.State.{World}
 use Rattle.fuse_device.specs.Steps.{device_step}
 use Rattle.fuse_device.proofs.Answering.{AnswersTo, device_step_replies}

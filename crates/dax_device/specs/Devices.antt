@@ -1,5 +1,5 @@
 -- A device at its start, and what stays true of it.
-use Rattle.std.specs.Prelude.{ℕ, List, [], length, replicate}
+use Rattle.std.specs.Prelude.{ℕ, [], length, replicate}
 use Rattle.fuse_device.specs.Promises.{IsServable, world}
 use Rattle.fuse_device.specs.State.{World, new_state}
 use Rattle.page_map.specs.Plain.{new_map}

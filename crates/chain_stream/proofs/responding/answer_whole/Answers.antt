@@ -1,4 +1,4 @@
-use Rattle.std.proofs.Common.{arith, refl, sym, subst, ℕ, List, Option}
+use Rattle.std.proofs.Common.{arith, sym, subst}
 use Rattle.std.proofs.lemmas.Grind.{common_steps}
 use Rattle.std.specs.declared.ops.ControlFlow.{ControlFlow}
 use Rattle.dax_script.specs.declared.statuses.Status.{Status}

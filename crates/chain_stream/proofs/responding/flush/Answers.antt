@@ -1,4 +1,4 @@
-use Rattle.std.proofs.Common.{arith, sym, ap, ◌∙◌, length, subst, ℕ, List, Option}
+use Rattle.std.proofs.Common.{arith, sym, ap, ◌∙◌, length, subst, ℕ, List}
 use Rattle.std.specs.declared.ops.ControlFlow.{ControlFlow}
 use Rattle.std.specs.declared.ops.ControlFlow.TheVariants.{Break, Continue}
 use Rattle.dax_script.specs.declared.statuses.Status.{Status}
