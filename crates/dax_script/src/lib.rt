@@ -23,6 +23,8 @@ mod parses;
 mod prints;
 mod readings;
 mod reads;
+#[cfg(test)]
+mod script_tests;
 mod scripts;
 mod statuses;
 mod std_streams;
