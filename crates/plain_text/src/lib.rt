@@ -12,6 +12,8 @@ mod cuts;
 mod hexadecimal;
 mod numbers;
 mod puts;
+#[cfg(test)]
+mod tests;
 
 pub use cuts::{cut, next_word};
 pub use hexadecimal::{hex_byte, hex_bytes};
