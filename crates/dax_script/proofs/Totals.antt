@@ -9,10 +9,10 @@ use Rattle.dax_script.specs.ScriptWords.{held_mode, hold_modes}
 use Rattle.dax_script.specs.ScriptText.{guests_with, moved_by, moved, max_calls, max_moved, max_guests, are_few}
 use Rattle.dax_script.specs.Totals.{AreTotals, modes_of}
 
-sum_one : {X : Type 0} (f : X → ℕ) (x : X) → sum_by f (x ∷ []) ≡ f x
+pub sum_one : {X : Type 0} (f : X → ℕ) (x : X) → sum_by f (x ∷ []) ≡ f x
 sum_one f x = omega arith
 
-sum_last : {X : Type 0} (f : X → ℕ) (xs : List X) (x : X) → sum_by f (xs ++ x ∷ []) ≡ sum_by f xs + f x
+pub sum_last : {X : Type 0} (f : X → ℕ) (xs : List X) (x : X) → sum_by f (xs ++ x ∷ []) ≡ sum_by f xs + f x
 sum_last f xs x = sum_by-append f xs (x ∷ []) ∙ ap (λ n. sum_by f xs + n) (sum_one f x)
 
 made_more : (done : List (List Call)) (cs : List Call) (c : Call) → sum_by length (guests_with done (Some (cs ++ c ∷ []))) ≡ sum_by length (guests_with done (Some cs)) + 1

@@ -1,7 +1,9 @@
-ghost use Rattle.std.specs.Prelude.{◌≡◌, ◌∷◌, ◌++◌, [], codes, decimal, map, IfOk, OnOk};
+ghost use Rattle.std.specs.Prelude.{◌≡◌, ◌∷◌, ◌++◌, [], true, codes, decimal, map, Ok, IfOk, OnOk};
 ghost use Rattle.std.specs.List.{flat_map};
 ghost use Rattle.hex.specs.Hex.{encode_lower};
 ghost use Rattle.plain_text.specs.Printed.{joined, line};
+ghost use Rattle.dax_script.specs.Fits.{fits};
+ghost use Rattle.dax_script.specs.ScriptText.{script_of};
 ghost use Rattle.dax_script.specs.ScriptPrinted.{mode_word, name_at, call_words, file_words, guest_lines, script_lines, text_of};
 
 use crate::scripts::{Call, FileLine, Script};
@@ -11,9 +13,11 @@ use plain_text::{put, put_hex, put_number};
 use std::alloc::Global;
 
 /// The text of a script: one space between two words, always a `background` line, and always the byte
-/// that a file is filled with. `Memory` is its only error.
+/// that a file is filled with. Where the script keeps the limits of scripts, the text reads as that
+/// script again. `Memory` is its only error.
 pub fn print(alloc: Global, script: &Script) -> Result<Blob, Memory>
     ensures text { IfOk result (λ b. b ≡ text_of script.now) }
+    ensures again { fits script.now ≡ true → IfOk result (λ b. script_of b ≡ Ok script.now) }
 {
     let mut out = Vec::new(alloc);
     put_ranges(&mut out, script.ranges)?;
