@@ -1,5 +1,5 @@
 -- One line more of a draft.
-use Rattle.std.proofs.Common.{◌≡◌, ◌∙◌, ap, sym, refl, subst, ℕ, List, [], ◌∷◌, ◌++◌, Option, Some, None, option_map, append-nil, is_some, true, false}
+use Rattle.std.proofs.Common.{◌≡◌, ◌∙◌, ap, sym, refl, subst, List, [], ◌∷◌, ◌++◌, Option, Some, None, option_map}
 use Rattle.dax_audit.specs.declared.transcripts.EntryLine.{EntryLine}
 use Rattle.dax_audit.specs.declared.transcripts.FilePart.{FilePart}
 use Rattle.dax_audit.specs.declared.transcripts.GuestPart.{GuestPart}
@@ -7,7 +7,7 @@ use Rattle.dax_audit.specs.declared.transcripts.Numbered.{Numbered}
 use Rattle.page_map.specs.declared.ranges.LogEntry.{LogEntry}
 use Rattle.dax_audit.specs.TranscriptReading.{Reading, Parts, onto_last, with_entry, with_log, with_line}
 use Rattle.transcript_text.specs.declared.drafts.Draft.{Draft}
-use Rattle.transcript_text.specs.Drafts.{listed, IsFirst, IsDraft, reading_of, file_more, entry_more, log_more, guest_more, line_more}
+use Rattle.transcript_text.specs.Drafts.{listed, IsFirst, IsDraft, reading_of, entry_more, log_more, line_more}
 
 again : {X : Type 0} (z : X) (zs : X → List X) (o : Option X) → option_map (λ ws. z ∷ ws) (option_map zs o) ≡ option_map (λ y. z ∷ zs y) o
 again z zs None = refl

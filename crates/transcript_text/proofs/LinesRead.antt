@@ -1,5 +1,5 @@
 -- A line of a draft, by what its words tell.
-use Rattle.std.proofs.Common.{◌≡◌, refl, ℕ, List, [], ◌∷◌, Option, Some, None}
+use Rattle.std.proofs.Common.{◌≡◌, refl, ℕ, List, [], ◌∷◌, Some, None}
 use Rattle.page_map.specs.declared.ranges.LogEntry.{LogEntry}
 use Rattle.dax_audit.specs.declared.transcripts.EntryLine.{EntryLine}
 use Rattle.dax_audit.specs.declared.transcripts.FilePart.{FilePart}

@@ -1,5 +1,5 @@
 -- The words behind a word, and a transcript that is read so far.
-use Rattle.std.specs.Prelude.{◌≡◌, ℕ, List, [], ◌∷◌, ◌++◌, Option, Some, None, option_map, MatchOption, ⊤, Bool, true, false, ◌==◌, Result, Ok, Err}
+use Rattle.std.specs.Prelude.{◌≡◌, ℕ, List, [], ◌∷◌, ◌++◌, Option, Some, None, option_map, MatchOption, ⊤, Bool, false, ◌==◌, Result, Err}
 use Rattle.std.specs.Borrow.{Bor}
 use Rattle.plain_text.specs.Words.{parts, space}
 use Rattle.dax_audit.specs.declared.transcripts.EntryLine.{EntryLine}

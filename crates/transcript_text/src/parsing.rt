@@ -4,9 +4,7 @@ ghost use Rattle.plain_text.specs.Words.{parts, space, line_end};
 ghost use Rattle.transcript_text.specs.Drafts.{behind, listed, is_one, IsDraft, IsCause, reading_of, parts_from, start, version};
 ghost use Rattle.dax_audit.specs.TranscriptReading.{number_32, file_read, entry_read, log_read, guest_read, call_read, line_read, transcript_from, transcript_of};
 
-use crate::drafts::{
-    Draft, add_entry, add_line, add_log, ended, new_draft, with_file, with_guest,
-};
+use crate::drafts::{Draft, add_entry, add_line, add_log, ended, new_draft, with_file, with_guest};
 use crate::reading::{entry, file, first_word, guest, log_entry, next_word, number_32, numbered};
 use dax_audit::{BadTranscript, Transcript};
 use plain_file::Memory;
@@ -103,7 +101,12 @@ fn guest_line(alloc: Global, draft: Draft, more: Option<&[u8]>) -> Result<Option
 }
 
 // A call's line.
-fn call_line(alloc: Global, draft: Draft, verb: &[u8], more: Option<&[u8]>) -> Result<Option<Draft>, Memory>
+fn call_line(
+    alloc: Global,
+    draft: Draft,
+    verb: &[u8],
+    more: Option<&[u8]>,
+) -> Result<Option<Draft>, Memory>
     requires { IsDraft draft }
     ensures value { IfOk result (λ o. option_map reading_of o ≡ call_read draft.ranges (draft.files ++ listed draft.file) (draft.guests ++ listed draft.guest) (verb.now ∷ behind more.entry)) }
     ensures sound { IfOk result (λ o. IfSome o IsDraft) }

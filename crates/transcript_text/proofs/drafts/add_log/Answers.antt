@@ -1,4 +1,4 @@
-use Rattle.std.proofs.Common.{◌≡◌, ◌∙◌, ap, sym, Option, option_map}
+use Rattle.std.proofs.Common.{◌∙◌, ap, sym, Option, option_map}
 use Rattle.dax_audit.specs.declared.transcripts.FilePart.{FilePart}
 use Rattle.transcript_text.specs.Drafts.{reading_of}
 use Rattle.transcript_text.proofs.Drafted.{filed, log_in}

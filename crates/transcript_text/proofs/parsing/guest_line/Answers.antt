@@ -1,6 +1,5 @@
-use Rattle.std.proofs.Common.{◌≡◌, ◌∙◌, ◌∷◌, ◌++◌, sym, subst, Option, option_map, IfOk}
-use Rattle.dax_audit.specs.TranscriptReading.{Reading}
-use Rattle.transcript_text.specs.Drafts.{behind, listed, reading_of}
+use Rattle.std.proofs.Common.{◌∙◌, ◌++◌, sym}
+use Rattle.transcript_text.specs.Drafts.{behind, listed}
 use Rattle.transcript_text.proofs.LinesRead.{guest_told, guest_untold}
 use Rattle.transcript_text.proofs.parsing.guest_line.Goals as goal
 
