@@ -1,5 +1,5 @@
 -- A transcript's text has as many lines as the transcript has items.
-use Rattle.std.proofs.Common.{◌≡◌, ◌∙◌, ap, sym, refl, ℕ, suc, ◌+◌, List, [], ◌∷◌, ◌++◌, map, length, length-append, codes, arith}
+use Rattle.std.proofs.Common.{◌≡◌, ap, refl, ℕ, suc, ◌+◌, List, [], ◌∷◌, ◌++◌, map, length, length-append, codes, arith}
 use Rattle.std.specs.List.{flat_map}
 use Rattle.dax_audit.specs.declared.transcripts.FilePart.{FilePart}
 use Rattle.dax_audit.specs.declared.transcripts.GuestPart.{GuestPart}

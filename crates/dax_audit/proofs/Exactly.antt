@@ -1,18 +1,16 @@
 -- A transcript is legal exactly where it has no fault.
-use Rattle.std.proofs.Common.{◌≡◌, ◌∙◌, ap, sym, refl, subst, ℕ, zero, suc, ◌+◌, ◌-◌, ◌<◌, ◌≤◌, ◌↔◌, Bool, true, false, not, ◌&&◌, ◌||◌, ltb, eqb, List, [], ◌∷◌, ◌++◌, length, map, Option, Some, None, slice_get, option_map, unwrap_or, is_none, bytes_eq, zero-add, true≢false, inl, inr, arith}
+use Rattle.std.proofs.Common.{◌≡◌, ◌∙◌, ap, sym, refl, subst, ℕ, zero, suc, ◌+◌, ◌-◌, ◌<◌, ◌≤◌, ◌↔◌, Bool, true, false, ◌&&◌, ltb, eqb, List, [], ◌∷◌, length, map, Option, Some, None, slice_get, option_map, unwrap_or, is_none, bytes_eq, zero-add, true≢false, inl, inr, arith}
 use Rattle.std.proofs.lemmas.Bool.{cases_Bool, cases_lt, not-false, not_from_true, and_parts, and_from, or_parts, or_from, eqb-true, eq-eqb, ltb-false, le-ltb, ltb-true, lt-ltb}
-use Rattle.std.proofs.lemmas.Option.{none-some, slice_get-map, slice_get_within, slice_get_past, same_Some}
+use Rattle.std.proofs.lemmas.Option.{none-some, slice_get-map, slice_get_within, same_Some}
 use Rattle.std.proofs.lemmas.Slice.Eq.{bytes_eq-Decides}
-use Rattle.std.specs.List.{AllByRecursion, position_from, range_with_len}
-use Rattle.plain_file.specs.declared.operations.First.{First}
+use Rattle.std.specs.List.{position_from, range_with_len}
 use Rattle.page_map.specs.declared.ranges.LogEntry.{LogEntry}
 use Rattle.page_map.specs.Logs.{Slot, may_follow, next_slots}
 use Rattle.range_tree.specs.Logs.{first_unsound, unsound_at}
 use Rattle.dax_script.specs.declared.scripts.Call.{Call}
 use Rattle.dax_script.specs.declared.scripts.FileLine.{FileLine}
 use Rattle.dax_script.specs.declared.scripts.Script.{Script}
-use Rattle.dax_script.specs.Asks.{calls_of, call_at}
-use Rattle.plain_text.specs.Options.{◌>>=◌}
+use Rattle.dax_script.specs.Asks.{calls_of}
 use Rattle.dax_audit.specs.declared.transcripts.EntryLine.{EntryLine}
 use Rattle.dax_audit.specs.declared.transcripts.FilePart.{FilePart}
 use Rattle.dax_audit.specs.declared.transcripts.GuestPart.{GuestPart}
@@ -23,8 +21,8 @@ use Rattle.dax_audit.specs.Items.{Item, Head, Ranges, File, Entry, Log, Guest, C
 use Rattle.dax_audit.specs.Rules.{lines_of, line_at, entry_at, is_file_line, is_line_of_file, breaks_files, lacks_lines, breaks_guests, is_place, breaks_logs, breaks_call, breaks_entry, breaks_forms, breaks_entries, breaks_order, breaks_replies, breaks_ways, breaks_tales, fits_at, has_entry_at, rises_at, replies_right, tells_at, is_named, came_right}
 use Rattle.plain_file.specs.File.{max_file}
 use Rattle.dax_audit.specs.Tables.{AreNamed, HaveEntries}
-use Rattle.dax_audit.specs.Legal.{Rule, the_rules, Fault, fault_or, first_fault, fault, file_line, IsLegal}
-use Rattle.dax_audit.proofs.Lines.{Passes, passes, none_broken, EachLine, each_line, line_each, at_line, line_there, at_entry, entry_there}
+use Rattle.dax_audit.specs.Legal.{the_rules, Fault, fault_or, first_fault, fault, file_line, IsLegal}
+use Rattle.dax_audit.proofs.Lines.{passes, none_broken, EachLine, each_line, line_each, at_line, line_there, at_entry, entry_there}
 
 -- ---- the rules one by one
 

@@ -1,6 +1,6 @@
 -- What holds of each line of a transcript, part by part.
-use Rattle.std.proofs.Common.{◌≡◌, ◌∙◌, ap, sym, refl, subst, ℕ, zero, suc, ◌+◌, Bool, true, false, not, cond, List, [], ◌∷◌, ◌++◌, Option, Some, None, slice_get, option_map, unwrap_or, zero-add, add-zero, inl, inr, arith}
-use Rattle.std.proofs.lemmas.Bool.{cases_Bool, cond-true, cond-false, not-false, not_from_true}
+use Rattle.std.proofs.Common.{◌≡◌, sym, refl, subst, ℕ, zero, suc, ◌+◌, Bool, false, List, [], ◌∷◌, ◌++◌, Option, Some, None, slice_get, option_map, unwrap_or, zero-add, inl, inr, arith}
+use Rattle.std.proofs.lemmas.Bool.{cases_Bool}
 use Rattle.std.proofs.lemmas.Option.{none-some}
 use Rattle.std.specs.List.{AllByRecursion, position_from}
 use Rattle.page_map.specs.declared.ranges.LogEntry.{LogEntry}
@@ -13,7 +13,7 @@ use Rattle.dax_audit.specs.declared.transcripts.Numbered.{Numbered}
 use Rattle.dax_audit.specs.declared.transcripts.Transcript.{Transcript}
 use Rattle.dax_audit.specs.Items.{Item, Head, Ranges, File, Entry, Log, Guest, Call, End, each_from, parts_from, file_items, guest_items, items}
 use Rattle.dax_audit.specs.Guests.{line_in}
-use Rattle.dax_audit.specs.Rules.{lines_of, line_at, entry_at}
+use Rattle.dax_audit.specs.Rules.{line_at, entry_at}
 
 -- ---- no line breaks a test
 

@@ -1,12 +1,11 @@
 -- One call more of a guest: what it has seen then, and which holds it gave up.
-use Rattle.std.proofs.Common.{◌≡◌, ◌∙◌, ap, sym, refl, subst, ℕ, zero, suc, ◌+◌, ◌≤◌, ◌<◌, min, Bool, true, false, if◌then◌else◌, ◌&&◌, ◌||◌, eqb, List, [], ◌∷◌, ◌++◌, map, take, length, set, get_or, zip, slice_get, Option, Some, None, IfSome, option_map, inl, inr, length-set, get_or-set_same, get_or-set_other, arith}
+use Rattle.std.proofs.Common.{◌≡◌, ◌∙◌, ap, sym, refl, ℕ, zero, suc, ◌+◌, ◌<◌, min, Bool, true, false, if◌then◌else◌, ◌&&◌, ◌||◌, eqb, List, [], ◌∷◌, ◌++◌, take, length, set, get_or, zip, slice_get, Option, Some, None, IfSome, option_map, inl, inr, length-set, get_or-set_same, get_or-set_other, arith}
 use Rattle.std.proofs.lemmas.Option.{none-some, slice_get-map}
 use Rattle.std.proofs.lemmas.Bool.{cases_Bool, eqb-true, eqb-false}
 use Rattle.std.specs.List.{list_any}
 use Rattle.dax_script.specs.declared.scripts.Call.{Call}
 use Rattle.dax_script.specs.declared.scripts.Call.TheVariants as calls
 use Rattle.dax_script.specs.declared.asks.Target.{Target}
-use Rattle.plain_text.specs.Options.{◌>>=◌}
 use Rattle.dax_script.specs.Asks.{target, hold_in}
 use Rattle.dax_audit.specs.declared.transcripts.Line.{Line}
 use Rattle.dax_audit.specs.declared.transcripts.Numbered.{Numbered}

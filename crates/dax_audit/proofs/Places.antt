@@ -1,11 +1,11 @@
 -- The first line of lists of lines, one after another.
-use Rattle.std.proofs.Common.{◌≡◌, ◌∙◌, ap, sym, refl, ℕ, zero, suc, ◌+◌, ◌<◌, ◌≤◌, Bool, true, false, cond, if◌then◌else◌, List, [], ◌∷◌, ◌++◌, length, drop, get_or, slice_get, Option, Some, None, length-append, inl, inr, arith}
+use Rattle.std.proofs.Common.{◌≡◌, ◌∙◌, ap, sym, refl, ℕ, zero, suc, ◌+◌, ◌<◌, Bool, false, if◌then◌else◌, List, [], ◌∷◌, ◌++◌, length, drop, get_or, Option, Some, None, length-append, inl, inr, arith}
 use Rattle.std.proofs.lemmas.Bool.{cases_Bool}
 use Rattle.std.specs.List.{position_from}
 use Rattle.dax_audit.specs.declared.transcripts.FilePart.{FilePart}
 use Rattle.dax_audit.specs.declared.transcripts.GuestPart.{GuestPart}
 use Rattle.dax_audit.specs.declared.transcripts.Transcript.{Transcript}
-use Rattle.dax_audit.specs.Items.{Item, Head, Ranges, File, Entry, Log, Guest, Call, End, items, each_from, parts_from, file_items, guest_items}
+use Rattle.dax_audit.specs.Items.{Item, Head, Ranges, File, Entry, Log, Call, End, items, each_from, parts_from, file_items, guest_items}
 
 pub drop_cons_at : {X : Type 0} (xs : List X) (i : ℕ) (x : X) → i < length xs → x ≡ get_or xs i x → drop i xs ≡ x ∷ drop (i + 1) xs
 drop_cons_at [] i x within at = absurd (omega arith)

@@ -1,10 +1,9 @@
 -- The words and lines of a transcript that are printed are read as what they say.
-use Rattle.std.proofs.Common.{◌≡◌, ◌∙◌, ap, refl, ℕ, ◌+◌, ◌-◌, ◌<◌, ◌≤◌, ◌^◌, ◌==◌, ◌&&◌, Bool, true, false, not, List, [], ◌∷◌, ◌++◌, length, map, nat_lt, nat_le, Option, Some, None, Result, codes, decimal, arith, tests}
+use Rattle.std.proofs.Common.{◌≡◌, ◌∙◌, ap, refl, ℕ, ◌+◌, ◌-◌, ◌<◌, ◌^◌, ◌==◌, ◌&&◌, Bool, true, false, not, List, [], ◌∷◌, ◌++◌, length, map, nat_le, Option, Some, None, Result, codes, decimal, arith, tests}
 use Rattle.std.proofs.lemmas.Bool.{and_parts}
 use Rattle.std.specs.List.{AllByRecursion, list_all}
 use Rattle.std.specs.Str.{bytes_eq}
 use Rattle.hex.specs.Hex.{encode_with, encode_lower}
-use Rattle.plain_text.specs.Words.{parts, space}
 use Rattle.plain_text.specs.Printed.{joined}
 use Rattle.plain_text.proofs.CleanWords.{IsCleanWord, clean_from_test, clean_hex, number_within-decimal, hex_of-encode_lower}
 use Rattle.plain_text.proofs.PrintedLines.{IsCleanLine, words-joined}

@@ -16,7 +16,6 @@ use Rattle.dax_audit.specs.declared.transcripts.Line.{Line}
 use Rattle.dax_audit.specs.declared.transcripts.Line.TheVariants as lines
 use Rattle.dax_audit.specs.declared.transcripts.Numbered.{Numbered}
 use Rattle.dax_audit.specs.declared.transcripts.Transcript.{Transcript}
-use Rattle.plain_text.specs.Options.{◌>>=◌}
 use Rattle.dax_audit.specs.TranscriptText.{way_words, answer_words, line_words, entry_words, mode_word, log_entry_words, log_words, numbered_words, file_lines, guest_lines, transcript_lines, text_of}
 use Rattle.dax_audit.specs.TranscriptReading.{only_byte, through_of, way_of, answer_of_words, via_of, mode_of, log_of_words, line_of_words, numbered_of, entry_of_words, file_of_words, guest_of_words, Reading, Start, Version, Parts, onto_last, with_entry, with_log, with_line, version_read, ranges_read, file_read, entry_read, log_read, guest_read, or_line, call_read, end_read, line_read, whole, transcript_from, transcript_of, IsPrintableThrough, IsPrintableWay, IsPrintableEntry, IsPrintableFile, IsPrintableAnswer, IsPrintableLine, IsPrintableNumbered, IsPrintableGuest, IsPrintable, IsPrintableLog}
 use Rattle.page_map.specs.declared.pages.Mode.{Mode}

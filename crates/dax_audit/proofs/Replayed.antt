@@ -1,10 +1,8 @@
 -- Operations of calls, and the tables of a file's entries.
-use Rattle.std.proofs.Common.{◌≡◌, ◌∙◌, ap, sym, refl, subst, ℕ, zero, suc, ◌+◌, ◌≤◌, Bool, true, false, List, [], ◌∷◌, map, take, length, slice_get, Option, Some, None, option_map, unwrap_or, arith}
-use Rattle.std.proofs.lemmas.Option.{none-some}
+use Rattle.std.proofs.Common.{◌≡◌, sym, refl, subst, ℕ, ◌≤◌, List, slice_get, Some, None}
 use Rattle.dax_script.specs.declared.scripts.Call.{Call}
 use Rattle.dax_script.specs.declared.scripts.Script.{Script}
 use Rattle.dax_script.specs.declared.asks.Target.{Target}
-use Rattle.plain_text.specs.Options.{◌>>=◌}
 use Rattle.dax_script.specs.Asks.{target, op_of, op_from, calls_of, call_at}
 use Rattle.plain_file.specs.File.{max_file}
 use Rattle.dax_audit.specs.Tables.{end_of, deed_from, StaysWithin}

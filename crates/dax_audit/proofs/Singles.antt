@@ -3,7 +3,6 @@ use Rattle.std.proofs.Common.{◌≡◌, ◌∙◌, ap, sym, refl, ℕ, zero, su
 use Rattle.std.specs.Prelude.{Vec}
 use Rattle.std.specs.declared.alloc.Global.{Global}
 use Rattle.std.proofs.lemmas.Option.{none-some, slice_get-map}
-use Rattle.plain_file.specs.declared.operations.Entry.{Entry}
 use Rattle.range_tree.specs.Logs.{unsound_at}
 use Rattle.dax_script.specs.declared.scripts.Call.{Call}
 use Rattle.dax_script.specs.declared.scripts.Script.{Script}
@@ -14,8 +13,8 @@ use Rattle.dax_audit.specs.declared.transcripts.EntryLine.{EntryLine}
 use Rattle.dax_audit.specs.declared.transcripts.FilePart.{FilePart}
 use Rattle.dax_audit.specs.declared.transcripts.Numbered.{Numbered}
 use Rattle.dax_audit.specs.declared.transcripts.Transcript.{Transcript}
-use Rattle.dax_audit.specs.Guests.{place_of, is_file, place_on, places_on, done_by}
-use Rattle.dax_audit.specs.Rules.{is_at, is_done_at, Past, past_of, pasts, past_at, entry_at, entry_in, names, names_line, has_entry}
+use Rattle.dax_audit.specs.Guests.{place_of, is_file, place_on, done_by}
+use Rattle.dax_audit.specs.Rules.{is_at, is_done_at, past_of, pasts, past_at, entry_at, entry_in, names, names_line, has_entry}
 use Rattle.dax_audit.specs.Tables.{AreHolds}
 
 -- ---- pairs of calls and lines

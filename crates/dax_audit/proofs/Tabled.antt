@@ -1,11 +1,10 @@
 -- What the tables of a file's entries have at a place.
-use Rattle.std.proofs.Common.{◌≡◌, ◌∙◌, ap, sym, refl, subst, ℕ, zero, suc, ◌+◌, ◌≤◌, ◌<◌, Bool, true, false, ◌&&◌, eqb, List, [], ◌∷◌, map, take, drop, length, slice_get, Option, Some, None, option_map, unwrap_or, arith}
+use Rattle.std.proofs.Common.{◌≡◌, ◌∙◌, ap, sym, refl, ℕ, zero, suc, ◌+◌, ◌≤◌, ◌<◌, Bool, true, eqb, List, [], ◌∷◌, map, take, drop, length, slice_get, Option, Some, None, option_map, arith}
 use Rattle.std.proofs.lemmas.Option.{none-some, slice_get-map}
 use Rattle.std.proofs.lemmas.Bool.{and_parts, eqb-true}
 use Rattle.plain_file.specs.declared.operations.Answer.{Answer}
-use Rattle.plain_file.specs.declared.operations.Entry.{Entry}
-use Rattle.plain_file.specs.File.{after, answer, first_bytes}
-use Rattle.plain_file.specs.History.{after_all, bytes, size, reply}
+use Rattle.plain_file.specs.File.{after, first_bytes}
+use Rattle.plain_file.specs.History.{after_all, bytes, size}
 use Rattle.dax_script.specs.declared.scripts.Script.{Script}
 use Rattle.dax_audit.specs.declared.replays.Replay.{Replay}
 use Rattle.dax_audit.specs.declared.transcripts.EntryLine.{EntryLine}
@@ -13,11 +12,11 @@ use Rattle.dax_audit.specs.declared.transcripts.FilePart.{FilePart}
 use Rattle.dax_audit.specs.declared.transcripts.Line.{Line}
 use Rattle.dax_audit.specs.declared.transcripts.Line.TheVariants as lines
 use Rattle.dax_audit.specs.declared.transcripts.Transcript.{Transcript}
-use Rattle.dax_audit.specs.Rules.{entry_in, op_in, past_of, pasts, past_at, no_past, same_answer, is_answer, line_at, entry_at, names_line, has_entry, replies_at, replies, replies_right}
+use Rattle.dax_audit.specs.Rules.{entry_in, op_in, past_of, pasts, past_at, line_at, entry_at, names_line, has_entry, replies_at, replies, replies_right}
 use Rattle.dax_audit.specs.Guests.{place_of}
 use Rattle.dax_script.specs.declared.scripts.Call.{Call}
 use Rattle.dax_script.specs.Asks.{target, calls_of, call_at}
-use Rattle.dax_audit.specs.Tables.{sizes_from, rights_from, right_on, told, told_by, AreReplays, HaveEntries, right_in, sizes_in}
+use Rattle.dax_audit.specs.Tables.{sizes_from, rights_from, right_on, told_by, AreReplays, HaveEntries, right_in, sizes_in}
 use Rattle.std.specs.List.{list_any, range_with_len}
 use Rattle.dax_script.specs.declared.asks.Target.{Target}
 use Rattle.dax_audit.proofs.Lines.{at_entry}

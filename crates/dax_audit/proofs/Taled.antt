@@ -1,11 +1,10 @@
 -- What a line tells, by the tables.
-use Rattle.std.proofs.Common.{◌≡◌, ◌∙◌, ap, sym, refl, subst, ℕ, zero, suc, ◌+◌, ◌-◌, ◌*◌, ◌≤◌, ◌<◌, min, ◌⊎◌, inl, inr, Bool, true, false, ◌&&◌, ◌==◌, if◌then◌else◌, List, [], ◌∷◌, map, take, drop, length, zip, slice_get, Option, Some, None, IfSome, option_map, unwrap_or, true≢false, drop_of_length-le, arith}
+use Rattle.std.proofs.Common.{◌≡◌, ◌∙◌, ap, sym, refl, subst, ℕ, zero, suc, ◌+◌, ◌-◌, ◌*◌, ◌≤◌, ◌<◌, min, inl, inr, Bool, true, false, ◌==◌, List, [], ◌∷◌, map, take, drop, length, zip, slice_get, Option, Some, None, IfSome, option_map, unwrap_or, arith}
 use Rattle.std.proofs.lemmas.Option.{none-some, slice_get-map, slice_get_within}
-use Rattle.std.proofs.lemmas.Bool.{cases_Bool, cases_lt, and_parts, ltb-true, leb-true}
+use Rattle.std.proofs.lemmas.Bool.{cases_lt}
 use Rattle.std.specs.List.{list_any, range_with_len}
 use Rattle.plain_file.specs.declared.operations.Through.{Through}
 use Rattle.plain_file.specs.History.{size}
-use Rattle.page_map.specs.declared.ranges.LogEntry.{LogEntry}
 use Rattle.page_map.specs.Logs.{is_writable}
 use Rattle.range_tree.specs.Logs.{is_live}
 use Rattle.range_tree.proofs.Live.{live_within}
@@ -15,7 +14,7 @@ use Rattle.dax_script.specs.declared.scripts.Script.{Script}
 use Rattle.dax_script.specs.declared.asks.Held.{Held}
 use Rattle.dax_script.specs.declared.asks.Target.{Target}
 use Rattle.plain_text.specs.Options.{◌>>=◌}
-use Rattle.dax_script.specs.Asks.{chunk_size, target, whole_file, held_of, hold_in, op_from, calls_of, call_at}
+use Rattle.dax_script.specs.Asks.{chunk_size, target, whole_file, held_of, hold_in, op_from, calls_of}
 use Rattle.plain_file.specs.File.{max_file}
 use Rattle.dax_audit.specs.declared.looks.Look.{Look}
 use Rattle.dax_audit.specs.declared.replays.Replay.{Replay}
@@ -25,7 +24,7 @@ use Rattle.dax_audit.specs.declared.transcripts.Line.{Line}
 use Rattle.dax_audit.specs.declared.transcripts.Line.TheVariants as lines
 use Rattle.dax_audit.specs.declared.transcripts.Numbered.{Numbered}
 use Rattle.dax_audit.specs.declared.transcripts.Transcript.{Transcript}
-use Rattle.dax_audit.specs.Guests.{place_on, places_on, first_place, next_place, seen_before, is_given_up, given_at, grant_in, had_grant}
+use Rattle.dax_audit.specs.Guests.{place_on, places_on, first_place, next_place, seen_before, is_given_up, given_at}
 use Rattle.dax_audit.specs.Rules.{Past, past_of, pasts, past_at, no_past, lines_of, line_at, is_end, grants, grant_for, access_end, tells, tells_at}
 use Rattle.dax_audit.specs.Tables.{AreReplays, AreLooks, sizes_in, seen_in, given_in, log_in, no_log, had_by, tells_by, end_in, granted_line, end_of, deed_from, StaysWithin}
 use Rattle.dax_audit.proofs.Lines.{at_line}

@@ -1,8 +1,8 @@
 -- The way of an entry by the tables.
-use Rattle.std.proofs.Common.{◌≡◌, ◌∙◌, ap, sym, refl, subst, ℕ, zero, suc, ◌+◌, ◌-◌, ◌≤◌, ◌<◌, ◌⊎◌, inl, inr, Bool, true, false, ◌&&◌, ◌==◌, eqb, ltb, leb, if◌then◌else◌, List, [], ◌∷◌, map, take, drop, length, zip, get_or, slice_get, Option, Some, None, option_map, unwrap_or, true≢false, arith}
-use Rattle.std.proofs.lemmas.Option.{none-some, slice_get-map, slice_get_within, get_or_from_slice_get, slice_get-get_or}
-use Rattle.std.proofs.lemmas.Bool.{cases_Bool, cases_lt, and_parts, eqb-true}
-use Rattle.std.specs.List.{list_any, range_with_len}
+use Rattle.std.proofs.Common.{◌≡◌, ◌∙◌, ap, sym, refl, subst, ℕ, zero, suc, ◌+◌, ◌-◌, ◌<◌, ◌⊎◌, inl, inr, true, false, ◌&&◌, ◌==◌, eqb, ltb, leb, List, length, zip, slice_get, Option, Some, None, option_map, true≢false, arith}
+use Rattle.std.proofs.lemmas.Option.{slice_get-map, slice_get_within, get_or_from_slice_get}
+use Rattle.std.proofs.lemmas.Bool.{cases_lt, and_parts, eqb-true}
+use Rattle.std.specs.List.{range_with_len}
 use Rattle.plain_file.specs.declared.operations.Way.{Way}
 use Rattle.plain_file.specs.declared.operations.Way.TheVariants as ways
 use Rattle.plain_file.specs.History.{size}
@@ -11,19 +11,17 @@ use Rattle.dax_script.specs.declared.scripts.Call.{Call}
 use Rattle.dax_script.specs.declared.scripts.Call.TheVariants as calls
 use Rattle.dax_script.specs.declared.scripts.Script.{Script}
 use Rattle.dax_script.specs.declared.asks.Target.{Target}
-use Rattle.plain_text.specs.Options.{◌>>=◌}
 use Rattle.dax_script.specs.Asks.{target, calls_of, call_at}
 use Rattle.dax_audit.specs.declared.looks.Look.{Look}
 use Rattle.dax_audit.specs.declared.replays.Replay.{Replay}
 use Rattle.dax_audit.specs.declared.transcripts.EntryLine.{EntryLine}
-use Rattle.dax_audit.specs.declared.transcripts.FilePart.{FilePart}
 use Rattle.dax_audit.specs.declared.transcripts.Line.{Line}
 use Rattle.dax_audit.specs.declared.transcripts.Numbered.{Numbered}
 use Rattle.dax_audit.specs.declared.transcripts.Transcript.{Transcript}
 use Rattle.dax_audit.specs.Guests.{place_of, seen_before, seen_at, done_by}
-use Rattle.dax_audit.specs.Rules.{Past, past_of, pasts, past_at, lines_of, line_at, entry_at, is_done_at, is_fresh, write_way, windowed, way_fits, came_right, is_req, rises, rises_at}
+use Rattle.dax_audit.specs.Rules.{Past, pasts, past_at, lines_of, line_at, entry_at, is_done_at, is_fresh, write_way, windowed, came_right, is_req, rises, rises_at}
 use Rattle.dax_audit.specs.Tables.{AreReplays, AreLooks, AreNamed, sizes_in, seen_in, fresh_in, write_by, windowed_by, log_in}
-use Rattle.dax_audit.proofs.Lines.{at_line, at_entry, entry_there}
+use Rattle.dax_audit.proofs.Lines.{at_line, at_entry}
 use Rattle.dax_audit.proofs.Singles.{done_some, done_no_call, done_no_line}
 use Rattle.dax_audit.proofs.Tabled.{past_is, sizes_there, sizes_many, any_range}
 use Rattle.dax_audit.proofs.Looked.{length_zip}

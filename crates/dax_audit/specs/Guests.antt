@@ -1,11 +1,10 @@
 -- What the lines of one guest tell, beside its calls.
-use Rattle.std.specs.Prelude.{ℕ, suc, ◌+◌, ◌==◌, ◌&&◌, Bool, true, false, not, List, [], ◌∷◌, take, drop, slice_get, slice_index, slice_index_or, slice_set, zip, Option, Some, None, option_map, is_some, map, if◌then◌else◌}
+use Rattle.std.specs.Prelude.{ℕ, ◌+◌, ◌==◌, ◌&&◌, Bool, true, false, List, [], ◌∷◌, take, drop, slice_get, slice_index, slice_index_or, slice_set, zip, Option, Some, None, option_map, map, if◌then◌else◌}
 use Rattle.std.specs.List.{list_any}
-use Rattle.plain_file.specs.declared.operations.Answer.{Answer}
 use Rattle.dax_script.specs.declared.scripts.Call.{Call}
 use Rattle.dax_script.specs.declared.scripts.Call.TheVariants as calls
 use Rattle.plain_text.specs.Options.{◌>>=◌}
-use Rattle.dax_script.specs.Asks.{target, held_of, place_of_hold, hold_in}
+use Rattle.dax_script.specs.Asks.{target, place_of_hold, hold_in}
 use Rattle.dax_script.specs.declared.asks.Target.{Target}
 use Rattle.dax_audit.specs.declared.transcripts.Line.{Line}
 use Rattle.dax_audit.specs.declared.transcripts.Line.TheVariants as lines

@@ -1,11 +1,9 @@
 -- When a transcript is legal for a script, and the first fault where it isn't.
-use Rattle.std.specs.Prelude.{◌≡◌, ℕ, ◌+◌, Bool, true, List, [], ◌∷◌, length, map, slice_get, Option, Some, None}
+use Rattle.std.specs.Prelude.{◌≡◌, ℕ, Bool, true, List, [], ◌∷◌, length, map, slice_get, Option, Some, None}
 use Rattle.std.specs.List.{range_with_len, position_from}
 use Rattle.range_tree.specs.Logs.{unsound_at}
-use Rattle.dax_script.specs.declared.scripts.Call.{Call}
 use Rattle.dax_script.specs.declared.scripts.FileLine.{FileLine}
 use Rattle.dax_script.specs.declared.scripts.Script.{Script}
-use Rattle.dax_script.specs.Asks.{call_at}
 use Rattle.dax_audit.specs.declared.transcripts.EntryLine.{EntryLine}
 use Rattle.dax_audit.specs.declared.transcripts.FilePart.{FilePart}
 use Rattle.dax_audit.specs.declared.transcripts.Line.{Line}

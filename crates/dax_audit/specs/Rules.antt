@@ -1,5 +1,5 @@
 -- The nine rules, each as the lines that break it.
-use Rattle.std.specs.Prelude.{◌≡◌, ℕ, suc, ◌+◌, ◌*◌, ◌-◌, ◌/◌, ◌==◌, ◌&&◌, ◌||◌, min, Bool, true, false, not, nat_lt, nat_le, List, [], ◌∷◌, length, map, slice_get, Option, Some, None, is_some, is_none, unwrap_or, option_map, if◌then◌else◌}
+use Rattle.std.specs.Prelude.{ℕ, ◌+◌, ◌*◌, ◌-◌, ◌/◌, ◌==◌, ◌&&◌, ◌||◌, min, Bool, true, false, not, nat_lt, nat_le, List, [], ◌∷◌, length, map, slice_get, Option, Some, None, is_some, is_none, unwrap_or, option_map, if◌then◌else◌}
 use Rattle.std.specs.List.{list_any, range_with_len}
 use Rattle.std.specs.Str.{bytes_eq}
 use Rattle.plain_file.specs.declared.operations.Answer.{Answer}
@@ -20,12 +20,11 @@ use Rattle.dax_script.specs.declared.scripts.Call.TheVariants as calls
 use Rattle.dax_script.specs.declared.scripts.FileLine.{FileLine}
 use Rattle.dax_script.specs.declared.scripts.Script.{Script}
 use Rattle.plain_text.specs.Options.{◌>>=◌}
-use Rattle.dax_script.specs.Asks.{chunk_size, held_of, is_hold, held_by, target, op_of, calls_of, call_at, hold_in, hold_places}
+use Rattle.dax_script.specs.Asks.{chunk_size, held_of, is_hold, held_by, target, op_of, calls_of, call_at, hold_in}
 use Rattle.dax_script.specs.declared.asks.Held.{Held}
 use Rattle.dax_script.specs.declared.asks.Target.{Target}
 use Rattle.dax_audit.specs.declared.transcripts.EntryLine.{EntryLine}
 use Rattle.dax_audit.specs.declared.transcripts.FilePart.{FilePart}
-use Rattle.dax_audit.specs.declared.transcripts.GuestPart.{GuestPart}
 use Rattle.dax_audit.specs.declared.transcripts.Line.{Line}
 use Rattle.dax_audit.specs.declared.transcripts.Line.TheVariants as lines
 use Rattle.dax_audit.specs.declared.transcripts.Grant.{Grant}

@@ -1,1 +1,4 @@
 pub mod Printed
+pub mod Drafted
+pub mod Named
+pub mod LinesRead

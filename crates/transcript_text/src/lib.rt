@@ -3,6 +3,9 @@
 //! What the text is stands in `dax_audit`'s `specs/`: `TranscriptText` and `TranscriptReading`.
 #![tactic(auto)]
 
+mod drafts;
+mod parsing;
 mod printing;
+mod reading;
 
 pub use printing::print;

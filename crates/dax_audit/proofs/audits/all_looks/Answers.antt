@@ -1,4 +1,4 @@
-use Rattle.std.proofs.Common.{◌≡◌, ◌∙◌, ap, sym, subst, ℕ, List, length, slice_get, ◌+◌, ◌<◌, Some, IfSome, arith}
+use Rattle.std.proofs.Common.{◌≡◌, ap, sym, subst, ℕ, List, length, slice_get, ◌+◌, ◌<◌, Some, IfSome, arith}
 use Rattle.std.proofs.lemmas.Option.{slice_get_read}
 use Rattle.dax_script.specs.Asks.{hold_in, calls_of}
 use Rattle.dax_audit.specs.Tables.{IsLook, AreLooksTo}

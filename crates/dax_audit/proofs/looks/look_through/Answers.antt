@@ -1,10 +1,10 @@
-use Rattle.std.proofs.Common.{◌≡◌, ◌∙◌, ap, sym, zero-add, false, ℕ, List, [], ◌∷◌, ◌++◌, Bool, zip, slice_get, length, map, subst, get_or, replicate, ◌+◌, ◌<◌, Some, None, IfSome, arith}
+use Rattle.std.proofs.Common.{◌≡◌, ◌∙◌, ap, sym, zero-add, false, ℕ, List, [], ◌∷◌, ◌++◌, Bool, zip, slice_get, length, map, subst, get_or, ◌<◌, Some, IfSome, arith}
 use Rattle.std.proofs.lemmas.Grind.{common_steps, elements}
 use Rattle.std.proofs.lemmas.Option.{slice_get_read, slice_get-get_or}
 use Rattle.std.proofs.lemmas.List.FromFn.{map-range_with_len_more}
 use Rattle.std.specs.List.{range_with_len}
-use Rattle.dax_script.specs.Asks.{target, hold_in}
-use Rattle.dax_audit.specs.Guests.{seen_at, given_at, seen_now, given_now, noted, given_back, after_places}
+use Rattle.dax_script.specs.Asks.{hold_in}
+use Rattle.dax_audit.specs.Guests.{seen_at, given_at, seen_now, given_now, after_places}
 use Rattle.dax_audit.proofs.Looked.{seen_on, seen_found, given_on, given_found, noted_length, back_length, length_zip}
 use Rattle.dax_audit.proofs.looks.look_through.Goals as goal
 

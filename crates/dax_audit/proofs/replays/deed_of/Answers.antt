@@ -1,7 +1,6 @@
 use Rattle.std.proofs.Common.{sym, subst, ◌≤◌}
 use Rattle.plain_file.specs.File.{max_file}
-use Rattle.dax_script.specs.Asks.{op_from}
-use Rattle.dax_audit.specs.Tables.{end_of, deed_from}
+use Rattle.dax_audit.specs.Tables.{end_of}
 use Rattle.dax_audit.proofs.Replayed.{within_script}
 use Rattle.dax_audit.proofs.replays.deed_of.Goals as goal
 

@@ -1,10 +1,9 @@
-use Rattle.std.proofs.Common.{◌≡◌, ◌∙◌, ◌-◌, ◌<◌, ap, sym, refl, length, min, unwrap_or, Some, None, arith}
+use Rattle.std.proofs.Common.{◌≡◌, ◌∙◌, ap, sym, refl, length, Some, None, arith}
 use Rattle.std.proofs.lemmas.Option.{slice_get_within}
 use Rattle.page_map.specs.Logs.{is_writable}
 use Rattle.range_tree.specs.Logs.{is_live}
 use Rattle.dax_script.specs.Asks.{held_of, calls_of}
-use Rattle.dax_audit.specs.Guests.{next_place}
-use Rattle.dax_audit.specs.Rules.{grants, lines_of}
+use Rattle.dax_audit.specs.Rules.{grants}
 use Rattle.dax_audit.specs.Tables.{log_in, sizes_in, seen_in, end_in}
 use Rattle.dax_audit.proofs.Taled.{not_live, has_sizes, granted_by}
 use Rattle.dax_audit.proofs.tales.Tales.is_granted.Goals as goal

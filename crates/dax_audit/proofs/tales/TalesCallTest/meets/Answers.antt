@@ -1,9 +1,8 @@
-use Rattle.std.proofs.Common.{◌≡◌, ◌∙◌, ◌≤◌, ap, sym, subst, slice_get, Option, Some, IfSome}
+use Rattle.std.proofs.Common.{◌≡◌, ◌∙◌, ◌≤◌, sym, subst, slice_get, Option, Some, IfSome}
 use Rattle.plain_file.specs.File.{max_file}
 use Rattle.dax_script.specs.declared.asks.Target.{Target}
-use Rattle.dax_script.specs.Asks.{calls_of, target, hold_in, op_from}
-use Rattle.dax_audit.specs.Rules.{lines_of, access_end, pasts}
-use Rattle.dax_audit.specs.Tables.{end_of, deed_from, had_by, given_in, tells_by, granted_line}
+use Rattle.dax_script.specs.Asks.{calls_of, op_from}
+use Rattle.dax_audit.specs.Tables.{end_of, deed_from}
 use Rattle.dax_audit.proofs.Taled.{within_target, tells_all}
 use Rattle.dax_audit.proofs.tales.TalesCallTest.meets.Goals as goal
 

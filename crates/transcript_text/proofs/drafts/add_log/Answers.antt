@@ -1,0 +1,9 @@
+use Rattle.std.proofs.Common.{◌∙◌, ap, sym, Option, option_map}
+use Rattle.dax_audit.specs.declared.transcripts.FilePart.{FilePart}
+use Rattle.transcript_text.specs.Drafts.{reading_of}
+use Rattle.transcript_text.proofs.Drafted.{filed, log_in}
+use Rattle.transcript_text.proofs.drafts.add_log.Goals as goal
+
+pub returns-clause-value : goal.returns-clause-value
+returns-clause-value c = let d = c.args.draft in
+    sym (log_in d c.in-Some.before c.args.entry c.requires c.in-None.is c.in-Some.is ∙ ap (λ (o : Option FilePart). option_map (λ p. reading_of (filed d p)) o) (sym c.in_ok-part.ensures))

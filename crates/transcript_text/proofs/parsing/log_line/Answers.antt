@@ -1,0 +1,11 @@
+use Rattle.std.proofs.Common.{◌≡◌, ◌∙◌, ◌++◌, sym, subst, Option, option_map, IfOk}
+use Rattle.dax_audit.specs.TranscriptReading.{Reading}
+use Rattle.transcript_text.specs.Drafts.{behind, listed, reading_of}
+use Rattle.transcript_text.proofs.LinesRead.{log_told, log_untold}
+use Rattle.transcript_text.proofs.parsing.log_line.Goals as goal
+
+pub returns-in_default-clause-value : goal.returns-in_default-clause-value
+returns-in_default-clause-value c = sym (log_untold c.args.draft.ranges (c.args.draft.files ++ listed c.args.draft.file) (c.args.draft.guests ++ listed c.args.draft.guest) (behind c.args.more) (sym c.log_entry.ensures ∙ c.in_default.is))
+
+pub returns-clause-value : goal.returns-clause-value
+returns-clause-value c = subst (λ (r : Option Reading). IfOk c.add_log.result (λ o. option_map reading_of o ≡ r)) (sym (log_told c.args.draft.ranges (c.args.draft.files ++ listed c.args.draft.file) (c.args.draft.guests ++ listed c.args.draft.guest) (behind c.args.more) c.in-Some.told (sym c.log_entry.ensures ∙ c.in-Some.is))) c.add_log.ensures.value
