@@ -1,6 +1,6 @@
 -- How much of a stream is read.
 use Rattle.std.proofs.Common.{◌≡◌, ◌+◌, List, [], Option, ℕ, arith}
-use Rattle.dax_script.specs.Causes.{TakesAtMost}
+use Rattle.program_io.specs.Causes.{TakesAtMost}
 use Rattle.chain_stream.specs.Frames.{limit}
 use Rattle.chain_stream.specs.Courses.{PendingView, Took, chunk}
 

@@ -7,9 +7,9 @@ use Rattle.std.proofs.Math.Seq.{take-append-add}
 use Rattle.std.proofs.KnownBytes.{Consumes-nil, Consumes-trans, Appends-nil, Appends-trans, Appends-kept}
 use Rattle.std.specs.Io.KnownBytes.{Appends, Consumes, Keeps, IsAtEnd}
 use Rattle.plain_file.specs.Counts.{Rose}
-use Rattle.dax_script.specs.Causes.{AppendsFront, AppendsPart}
-use Rattle.dax_script.specs.declared.statuses.Status.{Status}
-use Rattle.dax_script.specs.declared.statuses.Status.TheVariants as statuses
+use Rattle.program_io.specs.Causes.{AppendsFront, AppendsPart}
+use Rattle.program_io.specs.declared.statuses.Status.{Status}
+use Rattle.program_io.specs.declared.statuses.Status.TheVariants as statuses
 use Rattle.chain_stream.specs.declared.frames.End.{End}
 use Rattle.chain_stream.specs.declared.frames.End.TheVariants as ends
 use Rattle.std.proofs.lemmas.List.{length-append, take-append-le}

@@ -4,7 +4,7 @@ use Rattle.std.proofs.lemmas.List.{nil_from_length}
 use Rattle.std.proofs.lemmas.Grind.{common_steps}
 use Rattle.std.proofs.KnownBytes.{Appends-nil}
 use Rattle.std.specs.Io.KnownBytes.{Appends, Consumes, IsAtEnd}
-use Rattle.dax_script.specs.declared.statuses.Status.{Status}
+use Rattle.program_io.specs.declared.statuses.Status.{Status}
 use Rattle.chain_stream.specs.declared.frames.Lead.{Lead}
 use Rattle.chain_stream.specs.declared.frames.Lead.TheVariants as leads
 use Rattle.chain_stream.specs.declared.frames.Reason.{Reason}

@@ -5,9 +5,9 @@ use Rattle.std.specs.declared.ops.ControlFlow.{ControlFlow}
 use Rattle.std.specs.declared.ops.ControlFlow.TheVariants.{Continue, Break}
 use Rattle.std.specs.ControlFlow.{MatchControlFlow}
 use Rattle.plain_file.specs.Counts.{Rose}
-use Rattle.dax_script.specs.Causes.{AppendsFront, AppendsPart}
-use Rattle.dax_script.specs.declared.statuses.Status.{Status}
-use Rattle.dax_script.specs.declared.statuses.Status.TheVariants as statuses
+use Rattle.program_io.specs.Causes.{AppendsFront, AppendsPart}
+use Rattle.program_io.specs.declared.statuses.Status.{Status}
+use Rattle.program_io.specs.declared.statuses.Status.TheVariants as statuses
 use Rattle.fuse_wire.specs.Records.{u32_at}
 use Rattle.chain_stream.specs.declared.frames.End.{End}
 use Rattle.chain_stream.specs.declared.frames.End.TheVariants as ends

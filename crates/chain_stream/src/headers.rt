@@ -7,8 +7,8 @@ ghost use Rattle.chain_stream.specs.Headers.{IsHeaded, IsUnheaded, IsWaiting, he
 ghost use Rattle.chain_stream.specs.Courses.{Took, chunk};
 
 use crate::pendings::{FillError, Pending};
-use dax_script::Source;
 use fuse_wire::u32_at;
+use program_io::Source;
 
 // How many bytes the header has.
 const HEADER: usize = 12;

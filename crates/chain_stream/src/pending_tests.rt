@@ -1,6 +1,6 @@
 use crate::pendings::{FillError, Pending};
-use dax_script::MemSource;
 use plain_file::{Blob, List};
+use program_io::MemSource;
 use std::test::Fail;
 
 // Four bytes are read, then three; the third call fails, and the fourth finds the end.

@@ -3,8 +3,8 @@ ghost use Rattle.std.specs.Io.KnownBytes.{Consumes, IsAtEnd};
 ghost use Rattle.plain_file.specs.Counts.{Rose};
 ghost use Rattle.chain_stream.specs.Courses.{PendingView, chunk};
 
-use dax_script::Source;
 use plain_file::Memory;
+use program_io::Source;
 use std::alloc::Global;
 use std::marker::Model;
 use thiserror::Error;

@@ -5,8 +5,8 @@ ghost use Rattle.chain_stream.specs.Courses.{PendingView, Answers, Course, Ends,
 
 use crate::frames::{End, Lead, Reason, begins};
 use crate::pendings::{FillError, Pending};
-use dax_script::{Sink, Source, Status, write_all};
 use plain_file::Memory;
+use program_io::{Sink, Source, Status, write_all};
 use std::alloc::Global;
 use std::ops::ControlFlow;
 

@@ -1,5 +1,5 @@
 ghost use Rattle.std.specs.Prelude.{◌≡◌, ◌≤◌, ◌+◌};
-ghost use Rattle.dax_script.specs.Causes.{TakesAtMost};
+ghost use Rattle.program_io.specs.Causes.{TakesAtMost};
 ghost use Rattle.chain_stream.specs.Frames.{limit};
 ghost use Rattle.chain_stream.specs.Courses.{Ends, chunk, course_by};
 
@@ -7,8 +7,8 @@ use crate::frames::{End, Reason};
 use crate::headers::read_header;
 use crate::pendings::{FillError, Pending};
 use crate::responding::{Responder, end_stream, respond};
-use dax_script::{Sink, Source, Status};
 use plain_file::Memory;
+use program_io::{Sink, Source, Status};
 use std::alloc::Global;
 
 /// Answers a stream from its header on to its end. The answers to the whole frames that were read are

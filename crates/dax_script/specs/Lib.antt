@@ -1,7 +1,3 @@
-pub mod Causes
-pub mod Calls
-pub mod Memory
-pub mod Statuses
 pub mod Asks
 pub mod Steps
 pub mod ScriptWords
@@ -10,4 +6,3 @@ pub mod Halts
 pub mod Totals
 pub mod ScriptPrinted
 pub mod Fits
-pub mod Runs

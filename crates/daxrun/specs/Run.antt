@@ -2,10 +2,10 @@
 use Rattle.std.specs.Prelude.{◌≡◌, ℕ, ◌<◌, ◌≤◌, Bool, true, false, nat_lt, List, [], ◌∷◌, length, codes, Option, Some, None, is_none, if◌then◌else◌}
 use Rattle.std.specs.Str.{bytes_eq}
 use Rattle.std.specs.Io.KnownBytes.{Appends, Keeps}
-use Rattle.dax_script.specs.declared.statuses.Status.{Status}
-use Rattle.dax_script.specs.declared.statuses.Status.TheVariants as statuses
+use Rattle.program_io.specs.declared.statuses.Status.{Status}
+use Rattle.program_io.specs.declared.statuses.Status.TheVariants as statuses
 use Rattle.plain_file.specs.Counts.{Rose}
-use Rattle.dax_script.specs.Causes.{AppendsPart}
+use Rattle.program_io.specs.Causes.{AppendsPart}
 use Rattle.daxrun.specs.declared.scripts.Script.{Script}
 use Rattle.daxrun.specs.declared.transcripts.Transcript.{Transcript}
 use Rattle.daxrun.specs.ScriptText.{script_of}

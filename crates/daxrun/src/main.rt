@@ -24,7 +24,7 @@ mod scripts;
 mod transcripts;
 mod words;
 
-use dax_script::{Status, StdSink, StdSource, command_words};
+use program_io::{Status, StdSink, StdSource, command_words};
 use plain_file::Memory;
 use std::env;
 use std::process::ExitCode;

@@ -1,5 +1,5 @@
 use crate::runs::run;
-use dax_script::{MemSink, MemSource, Status, SureSink, SureSource, Word};
+use program_io::{MemSink, MemSource, Status, SureSink, SureSource, Word};
 use plain_file::{Blob, List, Memory};
 use std::alloc::{AllocError, Global};
 use std::sync::Wait;

@@ -4,12 +4,12 @@ use Rattle.std.proofs.lemmas.Bool.{lt-ltb, le-ltb}
 use Rattle.std.specs.Prelude.{codes}
 use Rattle.std.specs.Io.KnownBytes.{Appends}
 use Rattle.plain_file.specs.Counts.{Rose}
-use Rattle.dax_script.specs.Causes.{AppendsPart}
-use Rattle.dax_script.specs.declared.statuses.Status.{Status}
-use Rattle.dax_script.specs.declared.statuses.Status.TheVariants as statuses
+use Rattle.program_io.specs.Causes.{AppendsPart}
+use Rattle.program_io.specs.declared.statuses.Status.{Status}
+use Rattle.program_io.specs.declared.statuses.Status.TheVariants as statuses
 use Rattle.chain_stream.specs.Frames.{limit}
 use Rattle.chain_stream.specs.Courses.{Writes}
-use Rattle.dax_script.specs.Runs.{IsOkOrMemory}
+use Rattle.program_io.specs.Runs.{IsOkOrMemory}
 use Rattle.daxwire.specs.Run.{IfFinished}
 use Rattle.daxwire.specs.RingText.{Due, image_due, ring_due, ring_text, ring_status, IsAnswered}
 

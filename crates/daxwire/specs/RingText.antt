@@ -3,8 +3,8 @@ use Rattle.std.specs.Prelude.{ℕ, zero, suc, nat_lt, List, [], ◌∷◌, ◌++
 use Rattle.std.specs.Fmt.{decimal}
 use Rattle.hex.specs.Hex.{encode_lower}
 use Rattle.sha2.specs.Sha256.{sha256}
-use Rattle.dax_script.specs.declared.statuses.Status.{Status}
-use Rattle.dax_script.specs.declared.statuses.Status.TheVariants as statuses
+use Rattle.program_io.specs.declared.statuses.Status.{Status}
+use Rattle.program_io.specs.declared.statuses.Status.TheVariants as statuses
 use Rattle.fuse_codec.specs.Reading.{message_of}
 use Rattle.fuse_codec.specs.declared.replies.Reply.{Reply}
 use Rattle.fuse_codec.specs.declared.errors.BadReply.{BadReply}

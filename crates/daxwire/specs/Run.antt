@@ -1,8 +1,8 @@
 -- What a run writes, and when it ends with which status.
 use Rattle.std.specs.Prelude.{ℕ, List, codes, Option, Some, None}
 use Rattle.std.specs.Io.KnownBytes.{Keeps}
-use Rattle.dax_script.specs.declared.statuses.Status.{Status}
-use Rattle.dax_script.specs.declared.statuses.Status.TheVariants as statuses
+use Rattle.program_io.specs.declared.statuses.Status.{Status}
+use Rattle.program_io.specs.declared.statuses.Status.TheVariants as statuses
 use Rattle.daxwire.specs.declared.commands.Command.{Command}
 use Rattle.daxwire.specs.declared.commands.Command.TheVariants as commands
 use Rattle.daxwire.specs.Commands.{command_of}

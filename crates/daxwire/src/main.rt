@@ -32,7 +32,7 @@ mod stream_tests;
 #[cfg(test)]
 mod tables;
 
-use dax_script::{Status, StdSink, StdSource, command_words};
+use program_io::{Status, StdSink, StdSource, command_words};
 use plain_file::Memory;
 use std::env;
 use std::process::ExitCode;

@@ -1,6 +1,6 @@
 use crate::ring_table::RING;
 use crate::tables::{SURE, put_hex, ran, run_table};
-use dax_script::Status;
+use program_io::Status;
 use plain_file::List;
 use std::test::Fail;
 

@@ -1,18 +1,18 @@
 ghost use Rattle.std.specs.Prelude.{◌≡◌, ◌≢◌, ◌≤◌, ◌<◌, ◌+◌, ℕ, List, [], length, Some, IfOk, IfSome, OnOk};
 ghost use Rattle.std.specs.Io.KnownBytes.{Appends, Keeps, IsAtEnd};
 ghost use Rattle.plain_file.specs.Counts.{Rose};
-ghost use Rattle.dax_script.specs.Causes.{AppendsPart, TakesAtMost, buffer};
-ghost use Rattle.dax_script.specs.declared.statuses.Status.{Status};
+ghost use Rattle.program_io.specs.Causes.{AppendsPart, TakesAtMost, buffer};
+ghost use Rattle.program_io.specs.declared.statuses.Status.{Status};
 ghost use Rattle.chain_stream.specs.Frames.{limit};
 ghost use Rattle.chain_stream.specs.Courses.{Writes};
-ghost use Rattle.dax_script.specs.Runs.{IsOkOrMemory};
+ghost use Rattle.program_io.specs.Runs.{IsOkOrMemory};
 ghost use Rattle.daxwire.specs.Run.{IfFinished};
 ghost use Rattle.daxwire.specs.RingText.{all_served, left_by, image_due, ring_text, ring_status, IsAnswered};
 
 use crate::ring_lines::{put_chain_lines, put_digest, put_fault};
 use crate::shows::put;
 use dax_device::{QueueDevice, Turn, open_image};
-use dax_script::{ReadError, Sink, Source, Status, read_all, write_all};
+use program_io::{ReadError, Sink, Source, Status, read_all, write_all};
 use plain_file::{Blob, Memory};
 use std::alloc::Global;
 use vring::{Chain, RingFault};

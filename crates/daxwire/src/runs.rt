@@ -1,9 +1,9 @@
 ghost use Rattle.std.specs.Prelude.{◌≡◌, ◌≢◌, ◌≤◌, ◌+◌, ℕ, List, None, Some, IfSome};
 ghost use Rattle.std.specs.Io.KnownBytes.{Appends, IsAtEnd};
 ghost use Rattle.plain_file.specs.Counts.{Rose};
-ghost use Rattle.dax_script.specs.Causes.{AppendsFront, AppendsPart, TakesAtMost};
-ghost use Rattle.dax_script.specs.Runs.{IsOkOrMemory, IsUsageOrWriteFault};
-ghost use Rattle.dax_script.specs.declared.statuses.Status.{Status};
+ghost use Rattle.program_io.specs.Causes.{AppendsFront, AppendsPart, TakesAtMost};
+ghost use Rattle.program_io.specs.Runs.{IsOkOrMemory, IsUsageOrWriteFault};
+ghost use Rattle.program_io.specs.declared.statuses.Status.{Status};
 ghost use Rattle.chain_stream.specs.Frames.{limit};
 ghost use Rattle.chain_stream.specs.Courses.{IsCutOff, chunk};
 ghost use Rattle.daxwire.specs.Commands.{command_of};
@@ -14,7 +14,7 @@ use crate::rings::ring;
 use crate::serves::Serve;
 use crate::shows::Show;
 use chain_stream::answer_stream;
-use dax_script::{Sink, Source, Status, Word, write_all};
+use program_io::{Sink, Source, Status, Word, write_all};
 use std::alloc::Global;
 
 /// Runs the program. With the word `show` it reads a chain stream from the source and writes one line

@@ -1,7 +1,7 @@
 use crate::serve_table::SERVE;
 use crate::show_table::SHOW;
 use crate::tables::{Ends, SURE, put_hex, ran, run_table};
-use dax_script::Status;
+use program_io::Status;
 use plain_file::{Blob, List};
 use std::alloc::Global;
 use std::process::Abort;

@@ -1,7 +1,7 @@
 ghost use Rattle.std.specs.Prelude.{◌<◌};
 
 use crate::runs::run_wire;
-use dax_script::{MemSink, MemSource, Status, Word};
+use program_io::{MemSink, MemSource, Status, Word};
 use plain_file::{Blob, List, Memory};
 use std::alloc::Global;
 use std::process::Abort;

@@ -1,6 +1,6 @@
 use super::*;
 use crate::run_tests::answer_to;
-use dax_script::Status;
+use program_io::Status;
 use std::alloc::AllocError;
 use std::sync::Wait;
 use std::test::Fail;

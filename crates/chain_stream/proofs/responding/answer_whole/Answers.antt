@@ -1,8 +1,8 @@
 use Rattle.std.proofs.Common.{arith, sym, subst}
 use Rattle.std.proofs.lemmas.Grind.{common_steps}
 use Rattle.std.specs.declared.ops.ControlFlow.{ControlFlow}
-use Rattle.dax_script.specs.declared.statuses.Status.{Status}
-use Rattle.dax_script.specs.declared.statuses.Status.TheVariants as statuses
+use Rattle.program_io.specs.declared.statuses.Status.{Status}
+use Rattle.program_io.specs.declared.statuses.Status.TheVariants as statuses
 use Rattle.chain_stream.specs.declared.frames.Lead.{Lead}
 use Rattle.chain_stream.specs.Courses.{Follows, after_text, course_from}
 use Rattle.chain_stream.proofs.Answering.{went_answered}

@@ -1,7 +1,7 @@
 use Rattle.std.proofs.Common.{arith, sym, ap, ◌∙◌, length, subst, ℕ, List}
 use Rattle.std.specs.declared.ops.ControlFlow.{ControlFlow}
 use Rattle.std.specs.declared.ops.ControlFlow.TheVariants.{Break, Continue}
-use Rattle.dax_script.specs.declared.statuses.Status.{Status}
+use Rattle.program_io.specs.declared.statuses.Status.{Status}
 use Rattle.chain_stream.specs.declared.frames.Lead.{Lead}
 use Rattle.chain_stream.specs.Courses.{Follows, Went, after_text, course_from}
 use Rattle.chain_stream.proofs.CourseLaws.{ends_later, follows_first, went_more}

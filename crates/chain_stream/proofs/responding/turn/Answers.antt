@@ -1,6 +1,6 @@
 use Rattle.std.proofs.Common.{arith, sym, subst}
 use Rattle.std.specs.declared.ops.ControlFlow.{ControlFlow}
-use Rattle.dax_script.specs.declared.statuses.Status.{Status}
+use Rattle.program_io.specs.declared.statuses.Status.{Status}
 use Rattle.chain_stream.specs.Courses.{Follows, course_from}
 use Rattle.chain_stream.proofs.CourseLaws.{follows_more}
 use Rattle.chain_stream.proofs.responding.turn.Goals as goal

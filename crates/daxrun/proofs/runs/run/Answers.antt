@@ -1,7 +1,7 @@
 use Rattle.std.proofs.Common.{Err, ap, ◌∙◌, ◌<◌, ℕ, List, length, refl, sym}
-use Rattle.dax_script.specs.Causes.{AppendsPart}
-use Rattle.dax_script.specs.declared.statuses.Status.{Status}
-use Rattle.dax_script.specs.declared.statuses.Status.TheVariants as statuses
+use Rattle.program_io.specs.Causes.{AppendsPart}
+use Rattle.program_io.specs.declared.statuses.Status.{Status}
+use Rattle.program_io.specs.declared.statuses.Status.TheVariants as statuses
 use Rattle.daxrun.specs.Run.{IsDue, limit, usage_line, too_long_line}
 use Rattle.daxrun.proofs.Told.{each_input, long_input}
 use Rattle.daxrun.proofs.runs.run.Goals as goal

@@ -1,7 +1,7 @@
 use Rattle.std.proofs.Common.{List, ℕ, Option, refl, subst}
 use Rattle.std.specs.Prelude.{IfSome}
-use Rattle.dax_script.specs.Causes.{AppendsPart}
-use Rattle.dax_script.specs.declared.statuses.Status.TheVariants as statuses
+use Rattle.program_io.specs.Causes.{AppendsPart}
+use Rattle.program_io.specs.declared.statuses.Status.TheVariants as statuses
 use Rattle.daxrun.specs.Run.{Transcribes, refused_line}
 use Rattle.daxrun.proofs.runs.run_script.Goals as goal
 

@@ -1,6 +1,6 @@
 -- What a source and a sink in memory mean.
 use Rattle.std.specs.Prelude.{ℕ, List}
-use Rattle.dax_script.specs.declared.calls.Calls.{Calls}
+use Rattle.program_io.specs.declared.calls.Calls.{Calls}
 
 -- a source in memory: the bytes still to come, and its calls
 pub record SourceView : Type 0 where

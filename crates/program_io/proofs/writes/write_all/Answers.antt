@@ -1,7 +1,7 @@
 use Rattle.std.proofs.Common.{arith}
 use Rattle.std.proofs.lemmas.Grind.{common_steps}
-use Rattle.dax_script.proofs.Parts.{appends_further}
-use Rattle.dax_script.proofs.writes.write_all.Goals as goal
+use Rattle.program_io.proofs.Parts.{appends_further}
+use Rattle.program_io.proofs.writes.write_all.Goals as goal
 
 pub loop-done-preserved : goal.loop-done-preserved
 loop-done-preserved g c =

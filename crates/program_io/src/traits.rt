@@ -2,7 +2,7 @@ ghost use Rattle.std.specs.Prelude.{◌≡◌, ◌<◌, ℕ, List, length, Optio
 ghost use Rattle.std.specs.Io.{ReadsAtMost, WritesAtMost};
 ghost use Rattle.std.specs.Io.KnownBytes.{ReadConsumes, WriteAppends};
 ghost use Rattle.plain_file.specs.Counts.{Rose};
-ghost use Rattle.dax_script.specs.Causes.{HasCause};
+ghost use Rattle.program_io.specs.Causes.{HasCause};
 
 use thiserror::Error;
 

@@ -1,8 +1,8 @@
 ghost use Rattle.std.specs.Prelude.{◌≡◌, ◌<◌, [], ◌++◌, length, min, IsTrue, Some, IfOk, OnOk, OnErr, IsErr, is_err};
 ghost use Rattle.std.specs.Io.{ReadsAtMost, WritesAtMost};
 ghost use Rattle.std.specs.Io.KnownBytes.{ReadConsumes, WriteAppends};
-ghost use Rattle.dax_script.specs.Causes.{HasCause};
-ghost use Rattle.dax_script.specs.Calls.{after_call, fails_next, first_calls, part_of};
+ghost use Rattle.program_io.specs.Causes.{HasCause};
+ghost use Rattle.program_io.specs.Calls.{after_call, fails_next, first_calls, part_of};
 
 use crate::calls::Calls;
 use crate::traits::{Failed, Sink, Source};
@@ -20,7 +20,7 @@ pub struct MemSource {
 
 impl Model for MemSource {
     ghost use Rattle.std.specs.Prelude.{◌≤◌, drop, length};
-    ghost use Rattle.dax_script.specs.Memory.{SourceView};
+    ghost use Rattle.program_io.specs.Memory.{SourceView};
 
     ghost Value = { SourceView };
 
@@ -82,7 +82,7 @@ pub struct MemSink {
 }
 
 impl Model for MemSink {
-    ghost use Rattle.dax_script.specs.Memory.{SinkView};
+    ghost use Rattle.program_io.specs.Memory.{SinkView};
 
     ghost Value = { SinkView };
 

@@ -1,8 +1,8 @@
 -- The calls of a source or a sink in memory: which of them fail, and how much one gives or takes.
 use Rattle.std.specs.Prelude.{ℕ, ◌+◌, ◌-◌, ◌^◌, ◌==◌, ◌&&◌, nat_lt, min, Bool, List, if◌then◌else◌}
 use Rattle.std.specs.List.{list_any}
-use Rattle.dax_script.specs.Causes.{count_after}
-use Rattle.dax_script.specs.declared.calls.Calls.{Calls}
+use Rattle.program_io.specs.Causes.{count_after}
+use Rattle.program_io.specs.declared.calls.Calls.{Calls}
 
 -- the last value of a count
 abbrev pub last : ℕ

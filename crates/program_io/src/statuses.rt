@@ -1,5 +1,5 @@
 ghost use Rattle.std.specs.Prelude.{◌≡◌};
-ghost use Rattle.dax_script.specs.Statuses.{number_of};
+ghost use Rattle.program_io.specs.Statuses.{number_of};
 
 /// How a program ended. `number` is the exit status of its process.
 #[derive(Clone, Copy, Debug, PartialEq, Eq)]

@@ -1,7 +1,7 @@
 -- Which statuses a run may end with.
 use Rattle.std.specs.Prelude.{◌≡◌}
-use Rattle.dax_script.specs.declared.statuses.Status.{Status}
-use Rattle.dax_script.specs.declared.statuses.Status.TheVariants as statuses
+use Rattle.program_io.specs.declared.statuses.Status.{Status}
+use Rattle.program_io.specs.declared.statuses.Status.TheVariants as statuses
 
 -- the due status, or a failure
 abbrev pub IsExpected : Status → Status → Type 0

@@ -1,7 +1,7 @@
 -- The numbers of the exit statuses.
 use Rattle.std.specs.Prelude.{ℕ}
-use Rattle.dax_script.specs.declared.statuses.Status.{Status}
-use Rattle.dax_script.specs.declared.statuses.Status.TheVariants as statuses
+use Rattle.program_io.specs.declared.statuses.Status.{Status}
+use Rattle.program_io.specs.declared.statuses.Status.TheVariants as statuses
 
 -- the number that a process ends with
 unfoldable pub number_of : Status → ℕ

@@ -1,7 +1,7 @@
 use Rattle.std.proofs.Common.{◌++◌, take, arith}
 use Rattle.std.proofs.lemmas.Grind.{common_steps}
 use Rattle.std.proofs.KnownBytes.{Consumes-trans}
-use Rattle.dax_script.proofs.reads.read_all.Goals as goal
+use Rattle.program_io.proofs.reads.read_all.Goals as goal
 
 pub returns-then-n-limit-clause-most : goal.returns-then-n-limit-clause-most
 returns-then-n-limit-clause-most g c = (

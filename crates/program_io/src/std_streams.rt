@@ -1,7 +1,7 @@
 ghost use Rattle.std.specs.Prelude.{◌≡◌, ◌<◌, length, take, None, IfOk, is_err};
 ghost use Rattle.std.specs.Io.{ReadsAtMost, WritesAtMost};
 ghost use Rattle.std.specs.Io.KnownBytes.{ReadConsumes, Appends};
-ghost use Rattle.dax_script.specs.Causes.{HasCause, count_after};
+ghost use Rattle.program_io.specs.Causes.{HasCause, count_after};
 
 use crate::traits::{Failed, Sink, Source};
 use std::io::{Read, Write};

@@ -1,7 +1,7 @@
 ghost use Rattle.std.specs.Prelude.{◌≡◌, ◌<◌, ◌≤◌, ◌+◌, length, IfOk, IfSome, OnOk, IsErrOf};
 ghost use Rattle.std.specs.Io.KnownBytes.{IsAtEnd};
 ghost use Rattle.plain_file.specs.Counts.{Rose};
-ghost use Rattle.dax_script.specs.Causes.{TakesAtMost, buffer};
+ghost use Rattle.program_io.specs.Causes.{TakesAtMost, buffer};
 
 use crate::traits::Source;
 use plain_file::Blob;

@@ -1,5 +1,5 @@
 ghost use Rattle.std.specs.Prelude.{◌≡◌, ◌≤◌};
-ghost use Rattle.dax_script.specs.Calls.{after_call, fails_next, first_calls, part_of};
+ghost use Rattle.program_io.specs.Calls.{after_call, fails_next, first_calls, part_of};
 
 use plain_file::List;
 

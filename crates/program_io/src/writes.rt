@@ -1,7 +1,7 @@
 ghost use Rattle.std.specs.Prelude.{◌≤◌, OnOk, OnErr};
 ghost use Rattle.std.specs.Io.KnownBytes.{Appends};
 ghost use Rattle.plain_file.specs.Counts.{Rose};
-ghost use Rattle.dax_script.specs.Causes.{AppendsFront, AppendsPart};
+ghost use Rattle.program_io.specs.Causes.{AppendsFront, AppendsPart};
 
 use crate::traits::{Failed, Sink};
 
