@@ -4,8 +4,8 @@
 //! A script is the number of window ranges, turns of the background, files, and calls of guests on them.
 //! What it means stands in `specs/`: `ScriptText` (what text is a script, and else which line is the
 //! first bad one, for which reason), `ScriptWords` (what one word says there), `Steps`, `Asks` (what the
-//! calls ask: file, operation, hold), `ScriptPrinted` (the printed form), `Fits` (the scripts that some
-//! text gives).
+//! calls ask: file, operation, hold), `ScriptPrinted` (the printed form), `Fits` (the limits of scripts;
+//! what is printed of a script that keeps them reads as the script again).
 //!
 //! Code over `Source` and `Sink` is proved once, for the process's own streams and for bytes in
 //! memory alike. What they mean stands in their ghost members; the words of the clauses stand in
@@ -17,6 +17,7 @@ mod asks;
 mod call_reads;
 mod calls;
 mod counted_words;
+mod fits;
 mod halts;
 mod memory;
 mod parses;
