@@ -29,7 +29,7 @@ held_one c = elim (held_mode c) as (λ o. o ≡ held_mode c → hold_modes (c �
   | Some m ↦ λ e. rw (← e) refl
 ] refl
 
-held_more : (cs : List Call) (c : Call) → hold_modes (cs ++ c ∷ []) ≡ hold_modes cs ++ modes_of (held_mode c)
+pub held_more : (cs : List Call) (c : Call) → hold_modes (cs ++ c ∷ []) ≡ hold_modes cs ++ modes_of (held_mode c)
 held_more cs c = filter_map-append held_mode cs (c ∷ []) ∙ ap (λ ms. hold_modes cs ++ ms) (held_one c)
 
 at_most_one : (o : Option Mode) → length (modes_of o) ≤ 1

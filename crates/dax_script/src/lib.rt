@@ -11,6 +11,7 @@
 mod asks;
 mod call_reads;
 mod counted_words;
+mod fits;
 mod halts;
 mod parses;
 mod prints;

@@ -364,7 +364,7 @@ fn filled_file(
 }
 
 #[tactic(auto, unfolding(crate::specs::ScriptText::moved_by))]
-fn moved_by(call: &Call) -> u64
+pub(crate) fn moved_by(call: &Call) -> u64
     ensures { result ≡ moved_by call.now }
 {
     match call {
@@ -375,7 +375,7 @@ fn moved_by(call: &Call) -> u64
 }
 
 #[tactic(auto, unfolding(crate::specs::ScriptWords::held_mode))]
-fn held_mode(call: &Call) -> Option<Mode>
+pub(crate) fn held_mode(call: &Call) -> Option<Mode>
     ensures { result ≡ held_mode call.now }
 {
     match call {

@@ -165,8 +165,8 @@ fn refusal(alloc: Global, text: &[u8]) -> Option<(u64, Why)> {
 
 fn printed(alloc: Global, text: &[u8]) -> Result<Option<Blob>, Memory> {
     match parse(alloc, text) {
-        Ok(script) => Ok(Some(print(alloc, &script)?)),
-        Err(_) => Ok(None),
+        Ok(script) if script.fits() => Ok(Some(print(alloc, &script)?)),
+        _ => Ok(None),
     }
 }
 

@@ -168,7 +168,7 @@ pub(crate) fn writing_hold(held: &[Mode], word: &[u8]) -> Result<u32, Why>
 }
 
 #[tactic(auto, unfolding(page_map::specs::Logs::is_writable))]
-fn is_written(mode: Mode) -> bool
+pub(crate) fn is_written(mode: Mode) -> bool
     ensures { result ≡ is_writable mode }
 {
     mode == Mode::W
@@ -195,7 +195,7 @@ pub(crate) fn new_name(alloc: Global, files: &[FileLine], word: &[u8]) -> Result
     Ok(Name::new(Blob::copy_of(alloc, word)?).unwrap())
 }
 
-fn is_taken(files: &[FileLine], name: &[u8]) -> bool
+pub(crate) fn is_taken(files: &[FileLine], name: &[u8]) -> bool
     ensures { result ≡ list_any (is_called name.now) files.now }
 {
     files.iter().any(|f| f.name.as_slice() == name)
