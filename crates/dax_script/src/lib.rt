@@ -4,8 +4,8 @@
 //! [`parse`] reads one from its text, or tells the first bad line with its first reason; [`print`] writes its
 //! printed form. What it means stands in `specs/`: `ScriptText` (what text is a script, and else which line is the
 //! first bad one, for which reason), `ScriptWords` (what one word says there), `Steps`, `Asks` (what the
-//! calls ask: file, operation, hold), `ScriptPrinted` (the printed form), `Fits` (the scripts that some
-//! text gives).
+//! calls ask: file, operation, hold), `ScriptPrinted` (the printed form), `Fits` (the limits of scripts;
+//! what is printed of a script that keeps them reads as the script again).
 #![tactic(auto)]
 
 mod asks;
