@@ -33,14 +33,4 @@ pub use fuse_device::{Plan, Refused, plan_chain};
 pub use window_access::{WindowRefusal, load_window, store_window};
 
 #[cfg(test)]
-mod check_tests;
-#[cfg(test)]
-mod data_tests;
-#[cfg(test)]
-mod naming_tests;
-#[cfg(test)]
-mod session_tests;
-#[cfg(test)]
-mod test_chains;
-#[cfg(test)]
-mod wire_tests;
+mod tests;

@@ -1,14 +1,7 @@
-ghost use Rattle.fuse_device.specs.Promises.{IsServable, world};
-
-use super::Daemon;
-use crate::test_chains::{BEGIN, Case, device, odd_after_begin, odd_line, serve_bytes};
-use page_map::{Mode, Page, PageMap};
-use plain_file::{Memory, PlainFiles};
-use std::alloc::Global;
-use std::test::Fail;
+//! Names, lookups, handles and the files that were made.
 
 // A file is known as long as it has a name, a lookup or a handle.
-const LOOKUPS: &str = "
+pub const LOOKUPS: &str = "
 a lookup; 1; 1; 4096; 0; x61 z1; q2 z32 q2 q0 q0 z36 d33188 d1 z12 d4096 z4
 another lookup; 1; 1; 4096; 0; x61 z1; q2 z32 q2 q0 q0 z36 d33188 d1 z12 d4096 z4
 bytes; 16; 2; 4096; 0; q2 q0 d2 z20 x0708; x02 z7
@@ -33,7 +26,7 @@ known by its name; 3; 3; 4096; 0; d0 z4 q0; z16 q3 q0 q0 z36 d33188 d1 z12 d4096
 ";
 
 // A session ends and another begins: names, bytes and the numbers of handles go on.
-const TWO_SESSIONS: &str = "
+pub const TWO_SESSIONS: &str = "
 bytes; 16; 2; 4096; 0; q2 q0 d2 z20 x0708; x02 z7
 a mapping; 48; 2; 4096; 0; q2 q0 q4096 q1 q0;
 b has no name; 10; 1; 4096; 0; x62 z1;
@@ -51,7 +44,7 @@ its bytes; 15; 2; 4096; 0; q4 q0 d2 z20; x0708
 ";
 
 // A mapping stays when its file is forgotten, and no new one is made.
-const FORGOTTEN: &str = "
+pub const FORGOTTEN: &str = "
 a mapping; 48; 3; 4096; 0; q1 q4096 q4096 q2 q8192;
 no name; 10; 1; 4096; 0; x62 z1;
 closed; 18; 3; 4096; 0; q1 z16;
@@ -59,7 +52,13 @@ no lookup; 2; 3; 0; 0; x01 z7;
 no node; 48; 3; 4096; 2; q18446744073709551615 q4096 q4096 q2 q8192;
 ";
 
-const HANDLES: &str = "
+/// After [`BEGIN`](crate::tests::sessions::BEGIN) 1,021 handles are left.
+pub const FILL: &str = "
+a handle; 14; 2; 32; 1021; z8;
+";
+
+// 1,024 handles are open at most, and no number is used twice.
+pub const HANDLES: &str = "
 open: node before handles; 14; 20; 4096; 2; z8;
 open: file before handles; 14; 1; 4096; 21; z8;
 open; 14; 2; 4096; 24; z8;
@@ -78,7 +77,7 @@ no more; 14; 2; 4096; 24; z8;
 
 // Files a, b, c and aaaaaaaaa in the order that they were made, and a, aaaaaaaaa, b, c in byte order. An entry
 // of one character has 24 + 1 bytes and 7 to fill up, that of nine characters 24 + 9 and 7.
-const ENTRIES: &str = "
+pub const ENTRIES: &str = "
 file c; 35; 1; 160; 0; d0 z12 x6300; q4 z32 q4 q0 q0 z36 d33188 d1 z12 d4096 z4 q4 z8
 a long name; 35; 1; 160; 0; z16 x616161616161616161 z1; q5 z32 q5 q0 q0 z36 d33188 d1 z12 d4096 z4 q5 z8
 no size; 28; 1; 4096; 0; q3 q0 d0 z20;
@@ -101,7 +100,7 @@ its node stays; 1; 1; 144; 0; x63 z1; q4 z32 q4 q0 q0 z36 d33188 d1 z12 d4096 z4
 ";
 
 // 16 files are made at most, whether or not they still have a name.
-const MADE_FILES: &str = "
+pub const MADE_FILES: &str = "
 one more; 35; 1; 160; 0; d128 z12 x6300; q4 z32 q4 q0 q0 z36 d33188 d1 z12 d4096 z4 q4 z8
 one more; 35; 1; 160; 0; d128 z12 x6400; q5 z32 q5 q0 q0 z36 d33188 d1 z12 d4096 z4 q5 z8
 one more; 35; 1; 160; 0; d128 z12 x6500; q6 z32 q6 q0 q0 z36 d33188 d1 z12 d4096 z4 q6 z8
@@ -126,77 +125,3 @@ no name; 10; 1; 4096; 0; x63 z1;
 no number is used again; 35; 1; 4096; 28; d0 z12 x7100;
 nor for the same name; 35; 1; 4096; 28; d0 z12 x6300;
 ";
-
-#[test]
-fn two_sessions(rt: HostRuntime) -> Result<(), Fail> {
-    let alloc = rt.alloc();
-    let (mut daemon, mut files, mut map) = device(alloc)?;
-    let odd = odd_line(alloc, &mut daemon, &mut files, &mut map, BEGIN)?;
-    assert_eq!(rt; odd, None);
-    let odd = odd_line(alloc, &mut daemon, &mut files, &mut map, TWO_SESSIONS)?;
-    assert_eq!(rt; odd, None);
-    assert!(rt; map.find(0).is_none());
-    Ok(())
-}
-
-#[test]
-fn mapping_of_a_forgotten_file(rt: HostRuntime) -> Result<(), Fail> {
-    let alloc = rt.alloc();
-    let (mut daemon, mut files, mut map) = device(alloc)?;
-    let odd = odd_line(alloc, &mut daemon, &mut files, &mut map, BEGIN)?;
-    assert_eq!(rt; odd, None);
-    let odd = odd_line(alloc, &mut daemon, &mut files, &mut map, FORGOTTEN)?;
-    assert_eq!(rt; odd, None);
-    let page = Page {
-        node: 3,
-        foffset: 4097,
-        mode: Mode::R,
-    };
-    assert_eq!(rt; map.find(8193), Some(page));
-    Ok(())
-}
-
-// Serves a chain so many times, and counts how many are answered no error.
-fn count_done(
-    alloc: Global,
-    daemon: &mut Daemon,
-    files: &mut PlainFiles,
-    map: &mut PageMap,
-    case: &Case,
-    times: u32,
-) -> Result<u32, Memory>
-    requires { IsServable (world daemon.old files.old map.old) }
-    ensures { IsServable (world daemon.new files.new map.new) }
-{
-    let mut count = 0u32;
-    for turn in 0..times {
-        let reply = serve_bytes(alloc, daemon, files, map, &case.readable, case.room)?;
-        if reply.as_slice().get(4) == Some(&0) {
-            count = count.saturating_add(1);
-        }
-    }
-    Ok(count)
-}
-
-// 1,024 handles are open at most, and no number is used twice.
-#[test]
-fn handles(rt: HostRuntime) -> Result<(), Fail> {
-    let alloc = rt.alloc();
-    let (mut daemon, mut files, mut map) = device(alloc)?;
-    let odd = odd_line(alloc, &mut daemon, &mut files, &mut map, BEGIN)?;
-    assert_eq!(rt; odd, None);
-    let open = Case::of(alloc, "a handle; 14; 2; 32; 0; z8; z16")?;
-    let count = count_done(alloc, &mut daemon, &mut files, &mut map, &open, 1022)?;
-    assert_eq!(rt; count, 1021);
-    let odd = odd_line(alloc, &mut daemon, &mut files, &mut map, HANDLES)?;
-    assert_eq!(rt; odd, None);
-    Ok(())
-}
-
-#[test]
-fn names(rt: HostRuntime) -> Result<(), Fail> {
-    for table in [LOOKUPS, MADE_FILES, ENTRIES] {
-        assert_eq!(rt; odd_after_begin(rt.alloc(), table)?, None);
-    }
-    Ok(())
-}

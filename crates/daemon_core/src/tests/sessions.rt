@@ -1,8 +1,16 @@
-use crate::test_chains::{device, odd_line};
-use std::test::Fail;
+//! Whole sessions.
+
+/// Begins a session, makes file "b" of node 3 with handle 1, and opens file "a" of node 2 as handle 2
+/// and the directory as handle 3.
+pub const BEGIN: &str = "
+a session; 26; 0; 80; 0; d7 d31 z8; d7 d31 z8 x10000c00 d1048576 d1 z36
+file b; 35; 1; 160; 0; d128 z12 x6200; q3 z32 q3 q0 q0 z36 d33188 d1 z12 d4096 z4 q1 z8
+file a; 14; 2; 32; 0; z8; q2 z8
+the directory; 27; 1; 32; 0; z8; q3 z8
+";
 
 // One session, from before INIT to after DESTROY.
-const SESSION: &str = "
+pub const SESSION: &str = "
 before a session; 3; 1; 120; 5; z16;
 a version too old; 26; 0; 80; 71; x07 z3 x1e z11;
 a session; 26; 0; 80; 0; x07 z3 x1f z5 x02 z4 x04; x07 z3 x1f z5 x02 z4 x0410000c z3 x100001 z5 x0c z33
@@ -43,12 +51,3 @@ a file with a name; 3; 2; 120; 0; z16; z16 x02 z7 x02 z7 x01 z43 xa481000001 z16
 the end; 38; 0; 16; 0; ;
 after the end; 27; 1; 32; 5; z8;
 ";
-
-#[test]
-fn session(rt: HostRuntime) -> Result<(), Fail> {
-    let alloc = rt.alloc();
-    let (mut daemon, mut files, mut map) = device(alloc)?;
-    let odd = odd_line(alloc, &mut daemon, &mut files, &mut map, SESSION)?;
-    assert_eq!(rt; odd, None);
-    Ok(())
-}

@@ -1,5 +1,5 @@
 use Rattle.fuse_device.specs.Promises.{IsServable, world}
-use Rattle.daemon_core.proofs.wire_tests.odd_part.Given as goal
+use Rattle.daemon_core.proofs.tests.devices.odd_line.Given as goal
 
 abbrev pub invariant-loop-line : goal.invariant-loop-line
 invariant-loop-line l = IsServable (world l.daemon l.files l.map)

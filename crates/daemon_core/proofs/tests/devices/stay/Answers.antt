@@ -1,5 +1,5 @@
 use Rattle.fuse_device.proofs.DataLaws.{IsServable-serve_chain_data, servable_data}
-use Rattle.daemon_core.proofs.data_tests.serve.Goals as goal
+use Rattle.daemon_core.proofs.tests.devices.stay.Goals as goal
 
 pub returns : goal.returns
 returns c = IsServable-serve_chain_data _ _ _ _ _ c.serve_chain_data.ensures.step c.serve_chain_data.ensures.memory c.requires

@@ -1,9 +1,8 @@
-use crate::test_chains::{BEGIN, device, odd_after_begin, odd_line};
-use std::test::Fail;
+//! Chains for which two causes of an error stand together: the earlier check decides.
 
 // Two causes stand together, and the earlier check decides. Node 20 is no file's, handle 99 isn't open, and the
 // handle of all ones stands for none.
-const NAMES_AND_HANDLES: &str = "
+pub const NAMES_AND_HANDLES: &str = "
 init: an older major; 26; 0; 2000000; 71; d6 d31 z8;
 init: a later major; 26; 0; 2000000; 71; d8 d31 z8;
 init: an older minor; 26; 0; 2000000; 71; d7 d30 z8;
@@ -45,7 +44,7 @@ fallocate: handle before all; 43; 2; 2000000; 9; q1 z24;
 fallocate: always; 43; 2; 2000000; 95; q2 z24;
 ";
 
-const SIZES_BYTES_AND_MAPPINGS: &str = "
+pub const SIZES_BYTES_AND_MAPPINGS: &str = "
 getattr: node before handle; 3; 20; 2000000; 2; d1 z4 q99;
 getattr: handle of another; 3; 2; 2000000; 9; d1 z4 q1;
 getattr: handle of a file; 3; 1; 2000000; 9; d1 z4 q2;
@@ -78,7 +77,7 @@ setup: no sum wraps; 48; 2; 2000000; 22; q18446744073709551615 q0 q4096 q3 q1844
 setup: the last page of file and window; 48; 2; 16; 0; q18446744073709551615 q67104768 q4096 q3 q8384512;
 ";
 
-const INTERVALS: &str = "
+pub const INTERVALS: &str = "
 a page; 48; 2; 16; 0; q18446744073709551615 q0 q4096 q1 q4096;
 an offset; 49; 20; 2000000; 22; d2 q4096 q4096 q1 q4096;
 a length; 49; 20; 2000000; 22; d2 q4096 q4096 q0 q4095;
@@ -87,30 +86,6 @@ an end; 49; 20; 2000000; 22; d2 q4096 q4096 q8384512 q8192;
 no sum wraps; 49; 20; 2000000; 22; d2 q4096 q4096 q4096 q18446744073709547520;
 ";
 
-const ANY_NODE: &str = "
+pub const ANY_NODE: &str = "
 any node; 49; 20; 16; 0; d2 q4096 q4096 q4096 q4096;
 ";
-
-// One interval that is none keeps all of them from being cleared.
-#[test]
-fn intervals(rt: HostRuntime) -> Result<(), Fail> {
-    let alloc = rt.alloc();
-    let (mut daemon, mut files, mut map) = device(alloc)?;
-    let odd = odd_line(alloc, &mut daemon, &mut files, &mut map, BEGIN)?;
-    assert_eq!(rt; odd, None);
-    let odd = odd_line(alloc, &mut daemon, &mut files, &mut map, INTERVALS)?;
-    assert_eq!(rt; odd, None);
-    assert!(rt; map.find(4096).is_some());
-    let odd = odd_line(alloc, &mut daemon, &mut files, &mut map, ANY_NODE)?;
-    assert_eq!(rt; odd, None);
-    assert!(rt; map.find(4096).is_none());
-    Ok(())
-}
-
-#[test]
-fn checks(rt: HostRuntime) -> Result<(), Fail> {
-    for table in [NAMES_AND_HANDLES, SIZES_BYTES_AND_MAPPINGS] {
-        assert_eq!(rt; odd_after_begin(rt.alloc(), table)?, None);
-    }
-    Ok(())
-}
