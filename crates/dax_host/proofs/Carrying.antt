@@ -1,7 +1,6 @@
 -- What a carried request leaves, and keeps.
 use Rattle.std.proofs.Common.{◌≡◌, ◌∙◌, ap, sym, refl, subst, ◌≤◌, ℕ, false, List, length, Result, Ok, Err, inl, inr}
-use Rattle.plain_file.specs.Limits.{max_part}
-use Rattle.vring.specs.Driver.{offered_room, written_in}
+use Rattle.vring.specs.Driver.{part_room, offered_room, written_in}
 use Rattle.vring.proofs.Offers.{back_written}
 use Rattle.plain_file.specs.Board.{BoardView}
 use Rattle.page_map.specs.Board.{MapView}
@@ -17,7 +16,7 @@ use Rattle.dax_host.specs.Queue.{QueueView, IsSetUp, after_answer, after_return}
 use Rattle.dax_host.specs.Carrying.{Host, Carries}
 
 -- the driver finds the answer in the room
-pub written_back : (q new : QueueView) (answer : List ℕ) (room len : ℕ) → IsSetUp q → len ≡ length answer → len ≤ room → room ≤ max_part
+pub written_back : (q new : QueueView) (answer : List ℕ) (room len : ℕ) → IsSetUp q → len ≡ length answer → len ≤ room → room ≤ part_room q.driver.size
     → new ≡ after_return (after_answer q room answer) len → written_in new.memory new.driver.size len ≡ answer
 written_back q new answer room len up count fits small is =
     ap (λ (v : QueueView). written_in v.memory v.driver.size len) is
@@ -30,8 +29,9 @@ CanStep-same s files map readable same e can = subst (CanStep s files map) (sym 
 -- a queue and its device are what an honest wire to the whole daemon is ..
 pub Carries-Honest : (w : WireView) (old : Host) (sent : Sent) (result : Result (List ℕ) WireError) (new : Host) → w.stays ≡ false → Carries old sent result new → Honest w old.world sent result new.world
 Carries-Honest w old sent (Ok bytes) new whole h = carried_by_step w old.world sent bytes new.world whole h.step
-Carries-Honest w old sent (Err errors.Memory) new whole (inl h) = inl h.world
-Carries-Honest w old sent (Err errors.Memory) new whole (inr h) = inr (inr (_, carried_by_step w old.world sent _ new.world whole h.step))
+Carries-Honest w old sent (Err errors.Memory) new whole (inl same) = inl (ap (λ (h : Host). h.world) same)
+Carries-Honest w old sent (Err errors.Memory) new whole (inr (inl h)) = inl h.world
+Carries-Honest w old sent (Err errors.Memory) new whole (inr (inr h)) = inr (inr (_, carried_by_step w old.world sent _ new.world whole h.step))
 Carries-Honest w old sent (Err errors.Fault) new whole h = absurd h
 
 -- .. and never fail
@@ -44,11 +44,15 @@ stepped : (old : World) (sent : Sent) (bytes : List ℕ) (new : World) → CanSt
 stepped old sent bytes new can e =
     subst (λ (s : World × List ℕ). KeepsBoards (boards old.files old.map) (boards s.0.files s.0.map)) e (KeepsBoards-device_step old.state old.files old.map sent.bytes sent.room can)
 
+unchanged : (old new : Host) → new.world ≡ old.world → KeepsBoards (boards old.world.files old.world.map) (boards new.world.files new.world.map)
+unchanged old new same =
+    subst (λ (w : World). KeepsBoards (boards old.world.files old.world.map) (boards w.files w.map)) (sym same) (KeepsBoards-same old.world.files old.world.map)
+
 -- the boards keep what they keep over any wire
 pub Carries-KeepsBoards : (old : Host) (sent : Sent) (result : Result (List ℕ) WireError) (new : Host) → CanStep old.world.state old.world.files old.world.map sent.bytes → Carries old sent result new
     → KeepsBoards (boards old.world.files old.world.map) (boards new.world.files new.world.map)
 Carries-KeepsBoards old sent (Ok bytes) new can h = stepped old.world sent bytes new.world can h.step
-Carries-KeepsBoards old sent (Err errors.Memory) new can (inl h) =
-    subst (λ (w : World). KeepsBoards (boards old.world.files old.world.map) (boards w.files w.map)) (sym h.world) (KeepsBoards-same old.world.files old.world.map)
-Carries-KeepsBoards old sent (Err errors.Memory) new can (inr h) = stepped old.world sent _ new.world can h.step
+Carries-KeepsBoards old sent (Err errors.Memory) new can (inl same) = unchanged old new (ap (λ (h : Host). h.world) same)
+Carries-KeepsBoards old sent (Err errors.Memory) new can (inr (inl h)) = unchanged old new h.world
+Carries-KeepsBoards old sent (Err errors.Memory) new can (inr (inr h)) = stepped old.world sent _ new.world can h.step
 Carries-KeepsBoards old sent (Err errors.Fault) new can h = absurd h

@@ -1,16 +1,18 @@
 -- What is read of a request that goes through an idle queue.
-use Rattle.std.proofs.Common.{◌≡◌, ◌∙◌, ap, refl, subst, ◌+◌, ◌*◌, ◌%◌, ◌^◌, ◌<◌, ◌≤◌, ℕ, List, [], ◌∷◌, ◌++◌, length, Some, Ok, arith}
+use Rattle.std.proofs.Common.{◌≡◌, ◌∙◌, ap, refl, subst, ◌+◌, ◌*◌, ◌%◌, ◌^◌, ◌<◌, ◌≤◌, nat_le, Bool, true, false, if◌then◌else◌, ℕ, List, [], ◌∷◌, ◌++◌, length, Some, Ok, arith}
 use Rattle.std.specs.Int.{w16, w32, to_le_bytes}
+use Rattle.std.proofs.lemmas.Bool.Decides.{nat_tests}
 use Rattle.std.proofs.lemmas.List.{take_all, length-replicate}
 use Rattle.plain_file.specs.Limits.{max_part}
 use Rattle.vring.specs.Bytes.{put_at}
-use Rattle.vring.specs.Driver.{IsOffer, IsQueueSize, driver_layout, offered_room, used_at, writable_at, written_in}
+use Rattle.vring.specs.Driver.{IsOffer, IsQueueSize, driver_layout, part_room, offered_room, used_at, writable_at, written_in}
 use Rattle.vring.specs.Pieces.{scattered}
 use Rattle.vring.specs.Ring.{RingView, next_index, used_pushed}
+use Rattle.vring.proofs.QueueSizes.{size_8, size_64, size_1024}
 use Rattle.vring.proofs.PutLemmas.{length-put_at}
 use Rattle.vring.proofs.Offers.{offer_read, offer_found, offer_gathered, back_taken, back_written}
-use Rattle.dax_host.specs.Queue.{QueueView, IsIdle, after_offer, carried, given_up, fresh_queue}
-use Rattle.dax_host.specs.Rounds.{MayOffer, IsRead}
+use Rattle.dax_host.specs.Queue.{QueueView, IsIdle, after_offer, carried, given_up, fresh_queue, takes, size_for, queue_for}
+use Rattle.dax_host.specs.Rounds.{MayOffer, IsRead, HasRoom}
 
 -- the request may be offered
 offer_of : (q : QueueView) (readable : List ℕ) (room : ℕ) → MayOffer q readable room → IsOffer q.driver.size q.driver.offered (length readable) room
@@ -25,7 +27,7 @@ scattered_one mem bytes addr room h = ap (put_at mem addr) (take_all room bytes 
 length-offered : (q : QueueView) (readable : List ℕ) (room : ℕ) → MayOffer q readable room → length (after_offer q readable room).memory ≡ (driver_layout q.driver.size).memory
 length-offered q readable room h = (offer_read q.driver q.memory readable room (offer_of q readable room h) h.idle.set_up.len).length_is
 
-length-scattered : (mem bytes : List ℕ) (size room : ℕ) → length bytes ≤ room → room ≤ max_part → length mem ≡ (driver_layout size).memory → length (scattered mem (offered_room size room) bytes) ≡ length mem
+length-scattered : (mem bytes : List ℕ) (size room : ℕ) → length bytes ≤ room → room ≤ part_room size → length mem ≡ (driver_layout size).memory → length (scattered mem (offered_room size room) bytes) ≡ length mem
 length-scattered mem bytes size room fits small len =
     ap length (scattered_one mem bytes (writable_at size) room fits) ∙ length-put_at mem (writable_at size) bytes (omega (arith, fits, small, len))
 
@@ -79,6 +81,34 @@ given_up_idle q readable room h =
 pub fresh_idle : (size : ℕ) → IsQueueSize size → IsIdle (fresh_queue size)
 unfolding fresh_queue
 fresh_idle size s = record { set_up = record { size = s; layout = refl; len = length-replicate _ 0; used = refl }; seen = refl; even = refl; free = refl }
+
+-- the size that is chosen is one of a ring, and takes both parts
+pub record IsSizeFor (size len room : ℕ) : Type 0 where
+  pub size_is : IsQueueSize size
+  pub takes_is : takes size len room ≡ true
+
+chosen : (small middle : Bool) (len room : ℕ) → takes 8 len room ≡ small → takes 64 len room ≡ middle → takes 1024 len room ≡ true → IsSizeFor (if small then 8 else if middle then 64 else 1024) len room
+chosen true middle len room a b c = record { size_is = size_8; takes_is = a }
+chosen false true len room a b c = record { size_is = size_64; takes_is = b }
+chosen false false len room a b c = record { size_is = size_1024; takes_is = c }
+
+pub size_for_is : (len room : ℕ) → len ≤ max_part → room ≤ max_part → IsSizeFor (size_for len room) len room
+unfolding size_for
+size_for_is len room a b =
+    let whole : nat_le len 1052672 ≡ true = grind (arith, nat_tests, a) in
+    let all : nat_le room 1052672 ≡ true = grind (arith, nat_tests, b) in
+    chosen (takes 8 len room) (takes 64 len room) len room refl refl (rw (whole, all) refl)
+
+by_takes : (fits : Bool) (q : QueueView) (len room : ℕ) → takes q.driver.size len room ≡ fits → IsIdle q → len ≤ max_part → room ≤ max_part → HasRoom (if fits then q else fresh_queue (size_for len room)) len room
+unfolding fresh_queue
+by_takes true q len room e idle a b = record { idle = idle; takes = e }
+by_takes false q len room e idle a b =
+    let s = size_for_is len room a b in
+    record { idle = fresh_idle (size_for len room) s.size_is; takes = s.takes_is }
+
+pub queue_for_has_room : (q : QueueView) (len room : ℕ) → IsIdle q → len ≤ max_part → room ≤ max_part → HasRoom (queue_for q len room) len room
+unfolding queue_for
+queue_for_has_room q len room idle a b = by_takes (takes q.driver.size len room) q len room refl idle a b
 
 -- the driver finds the entry of its chain
 entry_read : (q : QueueView) (readable : List ℕ) (room : ℕ) (answer : List ℕ) → MayOffer q readable room → length answer ≤ room → used_at (carried q readable room answer).memory q.driver.size q.driver.taken (Some room) ≡ Ok (Some (record { head = 0; len = length answer }))

@@ -1,9 +1,9 @@
 -- A queue with both its sides over one memory: how far a request has come through it, and what it
 -- leaves there.
-use Rattle.std.specs.Prelude.{◌≡◌, ℕ, List, length, replicate, Some, None}
+use Rattle.std.specs.Prelude.{◌≡◌, ℕ, Bool, ◌&&◌, nat_le, List, length, replicate, Some, None, if◌then◌else◌}
 use Rattle.vring.specs.declared.chains.Chain.{Chain}
 use Rattle.vring.specs.Chain.{ChainLiesIn}
-use Rattle.vring.specs.Driver.{DriverView, IsQueueSize, driver_layout, offered_in, offered_room}
+use Rattle.vring.specs.Driver.{DriverView, IsQueueSize, driver_layout, part_room, offered_in, offered_room}
 use Rattle.vring.specs.Pieces.{scattered}
 use Rattle.vring.specs.Ring.{RingView, next_index, used_pushed}
 
@@ -47,6 +47,18 @@ fresh_queue size = record {
   ring = record { layout = driver_layout size; seen = 0; used_index = 0 };
   memory = replicate (driver_layout size).memory 0;
 }
+
+-- a queue of so many descriptors takes both parts of a request: so many bytes, and so much room
+abbrev pub takes : ℕ → ℕ → ℕ → Bool
+takes size len room = nat_le len (part_room size) && nat_le room (part_room size)
+
+-- the least of the numbers 8, 64 and 1,024 of descriptors that take both parts
+unfoldable pub size_for : ℕ → ℕ → ℕ
+size_for len room = if takes 8 len room then 8 else if takes 64 len room then 64 else 1024
+
+-- the queue that a request goes through: the one that is there, or a larger one in which nothing was offered yet, where both parts don't find room in that
+unfoldable pub queue_for : QueueView → ℕ → ℕ → QueueView
+queue_for q len room = if takes q.driver.size len room then q else fresh_queue (size_for len room)
 
 -- ---- a request's way through the queue
 

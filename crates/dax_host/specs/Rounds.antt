@@ -1,17 +1,17 @@
 -- What each side of a queue reads of a request that goes through it.
-use Rattle.std.specs.Prelude.{◌≡◌, ℕ, ◌^◌, ◌<◌, ◌≤◌, List, length, Some, Ok}
+use Rattle.std.specs.Prelude.{◌≡◌, ℕ, ◌^◌, ◌<◌, ◌≤◌, true, List, length, Some, Ok}
 use Rattle.plain_file.specs.Limits.{max_part}
 use Rattle.vring.specs.Chain.{chain_at}
-use Rattle.vring.specs.Driver.{IsQueueSize, offered_chain, used_at, written_in}
+use Rattle.vring.specs.Driver.{IsQueueSize, part_room, offered_chain, used_at, written_in}
 use Rattle.vring.specs.Pieces.{gathered}
-use Rattle.dax_host.specs.Queue.{QueueView, IsIdle, fresh_queue, after_offer, carried, given_up}
+use Rattle.dax_host.specs.Queue.{QueueView, IsIdle, fresh_queue, takes, queue_for, after_offer, carried, given_up}
 
 -- a queue in which these bytes may be offered, with so much room
 pub record MayOffer (q : QueueView) (readable : List ℕ) (room : ℕ) : Type 0 where
   pub idle : IsIdle q
   pub index : q.driver.offered < 2 ^ 16
-  pub len : length readable ≤ max_part
-  pub most : room ≤ max_part
+  pub len : length readable ≤ part_room q.driver.size
+  pub most : room ≤ part_room q.driver.size
 
 -- The device finds the chain that was offered, and in it the request's bytes. The driver finds the entry
 -- of this chain with the answer's length, and in the room the answer. Then the queue is idle.
@@ -33,3 +33,12 @@ GivenUpIsIdle = (q : QueueView) (readable : List ℕ) (room : ℕ) → MayOffer 
 -- a queue in which nothing was offered yet is idle
 abbrev pub FreshIsIdle : Type 0
 FreshIsIdle = (size : ℕ) → IsQueueSize size → IsIdle (fresh_queue size)
+
+-- an idle queue that takes both parts of a request
+pub record HasRoom (q : QueueView) (len room : ℕ) : Type 0 where
+  pub idle : IsIdle q
+  pub takes : takes q.driver.size len room ≡ true
+
+-- a queue that a request goes through takes it
+abbrev pub QueueForHasRoom : Type 0
+QueueForHasRoom = (q : QueueView) (len room : ℕ) → IsIdle q → len ≤ max_part → room ≤ max_part → HasRoom (queue_for q len room) len room

@@ -14,8 +14,8 @@ use std::alloc::Global;
 use std::marker::Model;
 use vring::{Chain, powers_of_two_are_queue_sizes};
 
-// How many descriptors the queue has: a request takes two.
-const SIZE: u16 = 4;
+// How many descriptors the queue has at first. A request takes two, and the room for its parts goes by their number.
+const SIZE: u16 = 8;
 
 // A queue for one request at a time, between two requests.
 #[derive(Debug, Drop)]
@@ -39,7 +39,7 @@ impl Model for Queue {
 impl Queue {
     // A queue in which nothing was offered.
     pub(crate) fn new(alloc: Global) -> Result<Queue, Memory>
-        ensures { IfOk result (λ q. q ≡ fresh_queue 4) }
+        ensures { IfOk result (λ q. q ≡ fresh_queue 8) }
     {
         powers_of_two_are_queue_sizes();
         Ok(Queue {
@@ -68,6 +68,7 @@ impl Queue {
             (host self.new (world daemon.new (F.board files.new) (M.map map.new))) }
     {
         let sides = &mut self.sides;
+        sides.make_room(alloc, readable.len(), room)?;
         sides.deliver(&mut self.chain, &mut self.readable, readable, room)?;
         let room = room_in(&self.chain);
         match daemon.serve_chain(alloc, &self.readable, room, files, map) {

@@ -1,15 +1,16 @@
 ghost use Rattle.std.specs.Prelude.{◌≡◌, ◌≤◌, ℕ, length, IfOk, OnOk, OnErr};
 ghost use Rattle.plain_file.specs.Limits.{max_part};
 ghost use Rattle.vring.specs.Chain.{ChainLiesIn};
-ghost use Rattle.vring.specs.Driver.{IsQueueSize, driver_layout, offered_room};
-ghost use Rattle.dax_host.specs.Queue.{IsIdle, IsOffered, IsDelivered, fresh_queue, after_offer, after_pop, after_answer, after_return, given_up};
+ghost use Rattle.vring.specs.Driver.{IsQueueSize, driver_layout, part_room, offered_room};
+ghost use Rattle.dax_host.specs.Queue.{IsIdle, IsOffered, IsDelivered, fresh_queue, takes, size_for, queue_for, after_offer, after_pop, after_answer, after_return, given_up};
 
 use plain_file::{Blob, Memory};
 use std::alloc::Global;
 use std::marker::Model;
 use vring::{
-    Chain, DriverRing, GuestMem, MAX_PART, PopError, Ring, driver_areas_are_allowed, gather_into,
-    offered_is_gathered, offered_is_popped, pushed_is_taken, room_is_offered, scatter,
+    Chain, DriverRing, GuestMem, MAX_PART, PART_PER_DESCRIPTOR, PopError, Ring,
+    driver_areas_are_allowed, gather_into, offered_is_gathered, offered_is_popped,
+    powers_of_two_are_queue_sizes, pushed_is_taken, room_is_offered, scatter,
 };
 
 // Both sides of a queue, and the memory in which it lies.
@@ -28,6 +29,34 @@ impl Model for Sides {
     ghost view = { λ s. record { driver = s.driver; ring = s.ring; memory = s.memory } };
 }
 
+// Whether a queue of so many descriptors takes both parts of a request.
+fn takes(size: u16, len: usize, room: u32) -> bool
+    ensures { result ≡ takes size len room }
+{
+    let most = PART_PER_DESCRIPTOR * size as u32;
+    len <= most as usize && room <= most
+}
+
+// How many descriptors a queue has that takes both parts of a request.
+#[tactic(auto, unfolding(crate::specs::Queue::size_for))]
+fn size_for(len: usize, room: u32) -> u16
+    requires len { len ≤ max_part }
+    requires room { room ≤ max_part }
+    ensures value { result ≡ size_for len room }
+    ensures queue { IsQueueSize result }
+    ensures len { len ≤ part_room result }
+    ensures room { room ≤ part_room result }
+{
+    powers_of_two_are_queue_sizes();
+    if takes(8, len, room) {
+        8
+    } else if takes(64, len, room) {
+        64
+    } else {
+        1024
+    }
+}
+
 // The device's side of a driver's ring, which has seen and pushed as many chains as `start` says.
 fn device_of(driver: &DriverRing, start: u16, memory: &GuestMem) -> Ring
     requires { length memory.now ≡ (driver_layout driver.now.size).memory }
@@ -43,6 +72,7 @@ impl Sides {
     #[tactic(auto, unfolding(crate::specs::Queue::fresh_queue))]
     pub(crate) fn new(alloc: Global, size: u16) -> Result<Sides, Memory>
         requires { IsQueueSize size }
+        ensures size { IfOk result (λ q. q.driver.size ≡ size) }
         ensures fresh { IfOk result (λ q. q ≡ fresh_queue size) }
         ensures idle { IfOk result (λ q. IsIdle q) }
     {
@@ -55,6 +85,38 @@ impl Sides {
         })
     }
 
+    // A queue for both parts of a request, in which nothing was offered.
+    fn for_parts(alloc: Global, len: usize, room: u32) -> Result<Sides, Memory>
+        requires len { len ≤ max_part }
+        requires room { room ≤ max_part }
+        ensures fresh { IfOk result (λ q. q ≡ fresh_queue (size_for len room)) }
+        ensures len { IfOk result (λ q. len ≤ part_room q.driver.size) }
+        ensures room { IfOk result (λ q. room ≤ part_room q.driver.size) }
+        ensures idle { IfOk result (λ q. IsIdle q) }
+    {
+        let size = size_for(len, room);
+        Sides::new(alloc, size)
+    }
+
+    // Makes room for both parts of a request: a larger queue, where this one doesn't take them.
+    #[tactic(auto, unfolding(crate::specs::Queue::queue_for))]
+    pub(crate) fn make_room(&mut self, alloc: Global, len: usize, room: u32) -> Result<(), Memory>
+        requires idle { IsIdle self.old }
+        requires len { len ≤ max_part }
+        requires room { room ≤ max_part }
+        ensures ok { OnOk result (self.new ≡ queue_for self.old len room) }
+        ensures len { OnOk result (len ≤ part_room self.new.driver.size) }
+        ensures room { OnOk result (room ≤ part_room self.new.driver.size) }
+        ensures err { OnErr result (self.new ≡ self.old) }
+        ensures idle { IsIdle self.new }
+    {
+        if takes(self.driver.size(), len, room) {
+            return Ok(());
+        }
+        *self = Sides::for_parts(alloc, len, room)?;
+        Ok(())
+    }
+
     // Offers a request, pops it and gathers its bytes. After an error the device has seen it or not.
     fn fetch(
         &mut self,
@@ -64,8 +126,8 @@ impl Sides {
         room: u32,
     ) -> Result<(), Memory>
         requires idle { IsIdle self.old }
-        requires readable { length readable.now ≤ max_part }
-        requires room { room ≤ max_part }
+        requires readable { length readable.now ≤ part_room self.old.driver.size }
+        requires room { room ≤ part_room self.old.driver.size }
         ensures ok { OnOk result (IsDelivered self.new room chain.new) }
         ensures bytes { OnOk result (bytes.new.items ≡ readable.now) }
         ensures popped { OnOk result (self.new ≡ after_pop (after_offer self.old readable.now room)) }
@@ -92,7 +154,7 @@ impl Sides {
     // Hands a request back with so many bytes written, and takes it back.
     fn push(&mut self, len: u32, room: u32)
         requires out { IsOffered self.old room }
-        requires room { room ≤ max_part }
+        requires room { room ≤ part_room self.old.driver.size }
         requires fits { len ≤ room }
         ensures queue { self.new ≡ after_return self.old len }
         ensures len { length self.new.memory ≡ length self.old.memory }
@@ -110,7 +172,7 @@ impl Sides {
     // Hands a request back that wasn't served; the device begins again behind it.
     pub(crate) fn give_up(&mut self, room: u32)
         requires out { IsOffered self.old room }
-        requires room { room ≤ max_part }
+        requires room { room ≤ part_room self.old.driver.size }
         ensures queue { self.new ≡ after_return
             (record self.old { ring = record self.old.ring { seen = self.old.driver.offered } }) 0 }
         ensures idle { IsIdle self.new }
@@ -129,8 +191,8 @@ impl Sides {
         room: u32,
     ) -> Result<(), Memory>
         requires idle { IsIdle self.old }
-        requires readable { length readable.now ≤ max_part }
-        requires room { room ≤ max_part }
+        requires readable { length readable.now ≤ part_room self.old.driver.size }
+        requires room { room ≤ part_room self.old.driver.size }
         ensures ok { OnOk result (IsDelivered self.new room chain.new) }
         ensures bytes { OnOk result (bytes.new.items ≡ readable.now) }
         ensures popped { OnOk result (self.new ≡ after_pop (after_offer self.old readable.now room)) }
@@ -166,7 +228,7 @@ impl Sides {
         room: u32,
     ) -> Result<Blob, Memory>
         requires delivered { IsDelivered self.old room chain.now }
-        requires room { room ≤ max_part }
+        requires room { room ≤ part_room self.old.driver.size }
         requires fits { length bytes.now ≤ room }
         ensures bytes { IfOk result (λ b. b ≡ bytes.now) }
         ensures queue { self.new ≡

@@ -25,7 +25,7 @@ use Rattle.fuse_device.proofs.OpenHandles.{device_step-succeeds}
 use Rattle.fuse_device.proofs.Receiving.{clean_reply_again}
 use Rattle.guest_wire.specs.Wires.{WireView, Boards, Sent, world_at, turn_for, with_turn, step_of, IsCarried, IsStep}
 use Rattle.guest_wire.specs.Requests.{sent}
-use Rattle.guest_wire.specs.Answers.{Answers, JudgesOrNot, IsSent, SaysItself, Succeeded, heard, numbered}
+use Rattle.guest_wire.specs.Answers.{Answers, JudgesOrNot, IsSent, SaysItself, Succeeded, heard, heard_as, numbered}
 use Rattle.guest_wire.specs.declared.wires.WireError.{WireError}
 use Rattle.guest_wire.specs.declared.wires.WireError.TheVariants as errors
 use Rattle.guest_wire.proofs.Carrying.{carried_whole}
@@ -67,7 +67,7 @@ unique_fits m bytes s = (spelled_fits (in_header (header_of (length bytes) m)) s
 
 -- bytes within the room that are read as a reply with the number
 heard_by : (m : Message) (bytes : List ℕ) (reply : Reply) → length bytes ≤ wanted_room m.body → reply_of (reply_form (kind_of m.body)) bytes ≡ Ok (m.head.unique, reply) → heard m bytes ≡ Some reply
-unfolding heard numbered
+unfolding heard_as numbered
 heard_by m bytes reply within read = rw (le-ltb (wanted_room m.body) (length bytes) within, read, eq-eqb m.head.unique m.head.unique refl) refl
 
 -- an answer of either step is within the room

@@ -6,10 +6,12 @@ use Rattle.fuse_codec.specs.Opcodes.{reply_form}
 use Rattle.fuse_codec.specs.ReplyReading.{reply_of}
 use Rattle.fuse_codec.specs.declared.errors.BadReply.{BadReply}
 use Rattle.fuse_codec.specs.declared.messages.Message.{Message}
+use Rattle.fuse_codec.specs.declared.opcodes.Opcode.{Opcode}
 use Rattle.fuse_codec.specs.declared.replies.Reply.{Reply}
 use Rattle.fuse_codec.specs.declared.replies.Reply.TheVariants as replies
 use Rattle.fuse_device.specs.State.{World}
 use Rattle.fuse_device.specs.Steps.{wanted_room}
+use Rattle.guest_wire.specs.declared.driver.Spelled.{Spelled}
 use Rattle.guest_wire.specs.declared.wires.WireError.{WireError}
 use Rattle.guest_wire.specs.declared.wires.WireError.TheVariants as errors
 use Rattle.guest_wire.specs.declared.wires.WireRefusal.{WireRefusal}
@@ -23,11 +25,23 @@ unfoldable pub numbered : ℕ → Result (ℕ × Reply) BadReply → Option Repl
 numbered unique (Ok (n, reply)) = if n == unique then Some reply else None
 numbered unique (Err bad) = None
 
--- The reply to a message that bytes are: within its room, decoded by its operation, with its number. None for all other bytes.
-unfoldable pub heard : Message → List ℕ → Option Reply
-heard m bytes =
-    if nat_lt (wanted_room m.body) (length bytes) then None
-    else numbered m.head.unique (reply_of (reply_form (kind_of m.body)) bytes)
+-- The reply that bytes are to a request of this number and operation: within the room, decoded by the operation, with the number. None for all other bytes.
+unfoldable pub heard_as : ℕ → Opcode → ℕ → List ℕ → Option Reply
+heard_as unique opcode room bytes =
+    if nat_lt room (length bytes) then None
+    else numbered unique (reply_of (reply_form opcode) bytes)
+
+-- the reply to a message that bytes are
+abbrev pub heard : Message → List ℕ → Option Reply
+heard m bytes = heard_as m.head.unique (kind_of m.body) (wanted_room m.body) bytes
+
+-- a message as it is sent: its bytes, and what its reply is known by
+pub record IsSpelled (m : Message) (s : Spelled) : Type 0 where
+  pub number : s.unique ≡ m.head.unique
+  pub opcode : s.opcode ≡ kind_of m.body
+  pub room : s.room ≡ wanted_room m.body
+  pub clean : s.bytes ≡ clean_message m
+  pub spelled : Spells m s.bytes
 
 -- What is answered by bytes that were received: a value where they are a success that says it, an error's number, or the bytes where they are no reply to the message.
 abbrev pub Judges : {V : Type 0} → (V → Reply → Type 0) → Option Reply → List ℕ → Result V WireRefusal → Type 0

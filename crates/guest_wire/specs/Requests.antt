@@ -4,6 +4,7 @@ use Rattle.fuse_wire.specs.declared.attributes.SetattrIn.{SetattrIn}
 use Rattle.fuse_wire.specs.declared.mappings.RemoveOne.{RemoveOne}
 use Rattle.fuse_wire.specs.declared.records.WriteIn.{WriteIn}
 use Rattle.fuse_codec.specs.Grammar.{clean_message}
+use Rattle.fuse_codec.specs.declared.messages.Head.{Head}
 use Rattle.fuse_codec.specs.declared.messages.Message.{Message}
 use Rattle.fuse_codec.specs.declared.messages.Request.{Request}
 use Rattle.fuse_codec.specs.declared.messages.Request.TheVariants as asks
@@ -20,9 +21,13 @@ use Rattle.guest_wire.specs.Wires.{WireView, Boards, Sent, CanShare}
 abbrev pub next_number : ℕ → ℕ
 next_number n = if n == 2 ^ 64 - 1 then 1 else n + 1
 
+-- the head of a request with this number, about this node, from nobody in particular
+abbrev pub head : ℕ → ℕ → Head
+head unique node = record { unique = unique; nodeid = node; uid = 0; gid = 0; pid = 0 }
+
 -- a request with this number, about this node
 abbrev pub message : ℕ → ℕ → Request → Message
-message unique node body = record { head = record { unique = unique; nodeid = node; uid = 0; gid = 0; pid = 0 }; body = body }
+message unique node body = record { head = head unique node; body = body }
 
 -- what is submitted of a message: its bytes, and the room that its reply wants
 abbrev pub sent : Message → Sent

@@ -1,23 +1,25 @@
-ghost use Rattle.std.specs.Prelude.{◌≡◌, ◌<◌, ◌≤◌, ◌^◌, ℕ, length, true, Result, IsSome, IfOk, Some};
+ghost use Rattle.std.specs.Prelude.{◌≡◌, ◌<◌, ◌≤◌, ◌^◌, ℕ, length, true, Result, Ok, IsSome, IfOk, Some};
 ghost use Rattle.plain_file.specs.Limits.{max_part};
 ghost use Rattle.fuse_codec.specs.Grammar.{kind_of, is_bounded};
 ghost use Rattle.fuse_codec.specs.Opcodes.{reply_form};
 ghost use Rattle.fuse_codec.specs.Replies.{answered, form_of, HasForm};
 ghost use Rattle.fuse_codec.specs.ReplyReading.{reply_of, GivesReply};
+ghost use Rattle.fuse_codec.specs.Reading.{message_of};
 ghost use Rattle.fuse_codec.specs.declared.errors.BadReply.{BadReply};
+ghost use Rattle.fuse_codec.specs.declared.messages.Message.{Message};
 ghost use Rattle.fuse_codec.specs.declared.opcodes.ReplyForm.{ReplyForm};
 ghost use Rattle.fuse_codec.specs.declared.replies.Reply.{Reply};
 ghost use Rattle.fuse_device.specs.Steps.{wanted_room};
-ghost use Rattle.guest_wire.specs.Wires.{boards, KeepsWire};
+ghost use Rattle.guest_wire.specs.Wires.{boards, CanSubmit, KeepsWire};
 ghost use Rattle.guest_wire.specs.Keeps.{KeepsBoards};
-ghost use Rattle.guest_wire.specs.Requests.{next_number, message, CanAsk};
-ghost use Rattle.guest_wire.specs.Answers.{Answers, SaysItself, JudgesOrNot, IsSuccessOrErrno, heard, numbered};
+ghost use Rattle.guest_wire.specs.Requests.{next_number, head, message, CanAsk};
+ghost use Rattle.guest_wire.specs.Answers.{Answers, SaysItself, IsSpelled, JudgesOrNot, IsSuccessOrErrno, heard_as, numbered};
 
 use crate::wires::{Wire, WireError, WireRefusal};
 use fuse_codec::{BadReply, Head, Message, Opcode, Reply, Request, decode_reply, encode_request};
 use fuse_device::wanted_room;
 use page_map::MapBoard;
-use plain_file::{Blob, FileBoard};
+use plain_file::{Blob, FileBoard, Memory};
 use std::alloc::Global;
 use std::sync::Wait;
 
@@ -102,47 +104,92 @@ impl<W> Driver<W> {
         ensures wire { KeepsWire (W.wire self.old.wire) (W.wire self.new.wire) }
         ensures boards { KeepsBoards (boards (F.board files.old) (M.map map.old)) (boards (F.board files.new) (M.map map.new)) }
     {
-        let message = message_of(unique, node, body);
-        let request = encode_request(alloc, &message)?;
-        let room = wanted_room(&message.body) as u32;
-        match self
-            .wire
-            .submit(rt, alloc, request.as_slice(), room, files, map)
-        {
-            Ok(bytes) => hear(alloc, &message, room, bytes),
+        let head = head_of(unique, node);
+        let message = Message { head, body };
+        let request = spell(alloc, &message)?;
+        self.send(rt, alloc, &request, files, map)
+    }
+
+    // Sends a message's bytes, and judges those that were received for it.
+    pub(crate) fn send<R: Wait, F: FileBoard, M: MapBoard>(
+        &mut self,
+        rt: &R,
+        alloc: Global,
+        request: &Spelled,
+        files: &mut F,
+        map: &mut M,
+    ) -> Result<Reply, WireRefusal>
+    where
+        W: Wire<F, M>,
+        requires answered { IsSome (answered (reply_form request.now.opcode)) }
+        requires readable { length request.now.bytes ≤ max_part }
+        requires room { request.now.room ≤ max_part }
+        requires boards { CanSubmit (W.wire self.old.wire) (boards (F.board files.old) (M.map map.old)) request.now.bytes }
+        ensures answer { (m : Message) → IsSpelled m request.now → Answers W.wire W.gives SaysItself self.old.wire (boards (F.board files.old) (M.map map.old)) m result self.new.wire (boards (F.board files.new) (M.map map.new)) }
+        ensures form { IfOk result (λ reply. form_of reply ≡ Some (reply_form request.now.opcode)) }
+        ensures number { self.new.unique ≡ self.old.unique }
+        ensures wire { KeepsWire (W.wire self.old.wire) (W.wire self.new.wire) }
+        ensures boards { KeepsBoards (boards (F.board files.old) (M.map map.old)) (boards (F.board files.new) (M.map map.new)) }
+    {
+        let bytes = request.bytes.as_slice();
+        match self.wire.submit(rt, alloc, bytes, request.room, files, map) {
+            Ok(bytes) => hear(alloc, request, bytes),
             Err(WireError::Fault) => Err(WireRefusal::WireFault),
             Err(WireError::Memory) => Err(WireRefusal::Memory),
         }
     }
 }
 
-// A request from nobody in particular.
-fn message_of(unique: u64, node: u64, body: Request) -> Message
-    ensures { result ≡ message unique node body }
+// A message as it is sent: its bytes, and what its reply is known by.
+#[derive(Debug, Drop)]
+pub(crate) struct Spelled {
+    pub unique: u64,
+    pub opcode: Opcode,
+    pub room: u32,
+    pub bytes: Blob,
+}
+
+// The head of a request from nobody in particular.
+pub(crate) fn head_of(unique: u64, node: u64) -> Head
+    ensures { result ≡ head unique node }
 {
-    let head = Head {
+    Head {
         unique,
         nodeid: node,
         uid: 0,
         gid: 0,
         pid: 0,
-    };
-    Message { head, body }
+    }
 }
 
-// What bytes say to a message: a success, or why they are none.
-#[tactic(auto, unfolding(crate::specs::Answers::heard))]
-fn hear(alloc: Global, message: &Message, room: u32, bytes: Blob) -> Result<Reply, WireRefusal>
-    requires answered { IsSome (answered (reply_form (kind_of message.now.body))) }
-    requires room { room ≡ wanted_room message.now.body }
-    ensures heard { JudgesOrNot (heard message.now bytes) bytes result }
-    ensures form { IfOk result (λ reply. form_of reply ≡ Some (reply_form (kind_of message.now.body))) }
+// A message as it is sent.
+fn spell(alloc: Global, message: &Message) -> Result<Spelled, Memory>
+    requires bounded { is_bounded message.now.body ≡ true }
+    requires room { wanted_room message.now.body ≤ max_part }
+    ensures spelled { IfOk result (λ s. IsSpelled message.now s) }
+    ensures again { IfOk result (λ s. message_of s.bytes ≡ Ok message.now) }
 {
-    if bytes.len() > room as usize {
+    let bytes = encode_request(alloc, message)?;
+    Ok(Spelled {
+        unique: message.head.unique,
+        opcode: message.body.opcode(),
+        room: wanted_room(&message.body) as u32,
+        bytes,
+    })
+}
+
+// What bytes say to a request: a success, or why they are none.
+#[tactic(auto, unfolding(crate::specs::Answers::heard_as))]
+fn hear(alloc: Global, request: &Spelled, bytes: Blob) -> Result<Reply, WireRefusal>
+    requires answered { IsSome (answered (reply_form request.now.opcode)) }
+    ensures heard { JudgesOrNot (heard_as request.now.unique request.now.opcode request.now.room bytes) bytes result }
+    ensures form { IfOk result (λ reply. form_of reply ≡ Some (reply_form request.now.opcode)) }
+{
+    if bytes.len() > request.room as usize {
         return Err(WireRefusal::BadReply { bytes });
     }
-    let decoded = decode(alloc, message.body.opcode(), bytes.as_slice());
-    judge(message.head.unique, decoded, bytes)
+    let decoded = decode(alloc, request.opcode, bytes.as_slice());
+    judge(request.unique, decoded, bytes)
 }
 
 // The reply to an operation that bytes are.

@@ -1,22 +1,23 @@
-ghost use Rattle.std.specs.Prelude.{◌≡◌, ◌<◌, ◌≤◌, length};
+ghost use Rattle.std.specs.Prelude.{◌≡◌, ◌<◌, ◌≤◌, length, Ok, IfOk};
 ghost use Rattle.plain_file.specs.Limits.{max_transfer};
+ghost use Rattle.fuse_codec.specs.Reading.{message_of};
 ghost use Rattle.fuse_codec.specs.declared.messages.Request.TheVariants as asks;
 ghost use Rattle.fuse_codec.specs.declared.replies.Reply.TheVariants as replies;
 ghost use Rattle.guest_wire.specs.Wires.{boards, KeepsWire};
 ghost use Rattle.guest_wire.specs.Keeps.{KeepsBoards};
 ghost use Rattle.guest_wire.specs.Requests.{next_number, message, CanAsk, open_request, release_request, getattr_request, setattr_request, read_request, write_request, size_for, write_at};
-ghost use Rattle.guest_wire.specs.Answers.{Answers, SaysOpened, SaysWrote};
+ghost use Rattle.guest_wire.specs.Answers.{Answers, IsSpelled, SaysOpened, SaysWrote};
 
-use crate::driver::{Driver, FileRef};
+use crate::driver::{Driver, FileRef, Spelled, head_of};
 use crate::replies::{attr_in, bytes_in, done, opened_in, wrote_in};
 use crate::wires::{Wire, WireRefusal};
-use fuse_codec::Request;
+use fuse_codec::{Opcode, Request, encode_write};
 use fuse_wire::{
     AttrOut, FATTR_FH, FATTR_SIZE, FUSE_GETATTR_FH, GetattrIn, OpenIn, ReadIn, ReleaseIn,
     SetattrIn, WriteIn,
 };
 use page_map::MapBoard;
-use plain_file::{Blob, FileBoard};
+use plain_file::{Blob, FileBoard, Memory};
 use std::alloc::Global;
 use std::sync::Wait;
 
@@ -224,10 +225,8 @@ impl<W> Driver<W> {
             (boards (F.board files.new) (M.map map.new)) }
     {
         let unique = self.next_unique();
-        let bytes = Blob::copy_of(alloc, bytes)?;
-        let head = write_at(at.fh, off, bytes.len() as u32);
-        let body = Request::Write { head, bytes };
-        let reply = self.ask(rt, alloc, unique, at.node, body, files, map)?;
+        let request = spell_write(alloc, unique, at, off, bytes)?;
+        let reply = self.send(rt, alloc, &request, files, map)?;
         Ok(wrote_in(reply).size)
     }
 }
@@ -251,6 +250,30 @@ fn size_for(fh: u64, size: u64) -> SetattrIn
         uid: 0,
         gid: 0,
     }
+}
+
+// A WRITE of bytes that the caller keeps, as it is sent.
+#[tactic(auto, unfolding(fuse_codec::specs::Grammar::kind_of, fuse_codec::specs::Grammar::asked, fuse_codec::specs::Grammar::form_room, fuse_codec::specs::Opcodes::reply_form))]
+fn spell_write(
+    alloc: Global,
+    unique: u64,
+    at: FileRef,
+    offset: u64,
+    bytes: &[u8],
+) -> Result<Spelled, Memory>
+    requires most { length bytes.now ≤ max_transfer }
+    ensures spelled { IfOk result (λ s. IsSpelled (message unique at.node (write_request at offset bytes.now)) s) }
+    ensures again { IfOk result (λ s. message_of s.bytes ≡ Ok (message unique at.node (write_request at offset bytes.now))) }
+{
+    let write = write_at(at.fh, offset, bytes.len() as u32);
+    let bytes = encode_write(alloc, &head_of(unique, at.node), &write, bytes)?;
+    let form = Opcode::Write.reply_form();
+    Ok(Spelled {
+        unique,
+        opcode: Opcode::Write,
+        room: form.room(0).unwrap_or(16) as u32,
+        bytes,
+    })
 }
 
 // Where a WRITE begins, and how long it is.

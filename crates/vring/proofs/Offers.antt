@@ -14,7 +14,7 @@ use Rattle.vring.specs.Spelling.{descriptor_bytes}
 use Rattle.vring.specs.Pieces.{total, bytes_of, gathered, scattered}
 use Rattle.vring.specs.Chain.{descriptor_at, reached, is_writable, piece_at, fault_of, fault_at, first_fault, readable_of, writable_of, chain_of, ahead, chain_at}
 use Rattle.vring.specs.Ring.{RingView, next_index, used_pushed}
-use Rattle.vring.specs.Driver.{DriverView, IsQueueSize, IsOffer, offered_chain, offered_room, readable_at, writable_at, driver_layout, offered_in, used_at, written_in}
+use Rattle.vring.specs.Driver.{DriverView, IsQueueSize, IsOffer, offered_chain, offered_room, readable_at, writable_at, part_room, driver_layout, offered_in, used_at, written_in}
 use Rattle.vring.proofs.PutLemmas.{length-put_at, read_before, read_behind, read_inside, take_less}
 
 abbrev pub first_descriptor : ℕ → ℕ → Descriptor
@@ -29,7 +29,7 @@ pub record IsOffered (m : List ℕ) (size offered len room : ℕ) : Type 0 where
   pub head : u16_at m (16 * size + 4 + 2 * (offered % size)) ≡ 0
   pub first : descriptor_at m (driver_layout size) 0 ≡ first_descriptor size len
   pub second : descriptor_at m (driver_layout size) 1 ≡ second_descriptor size room
-  pub length_is : length m ≡ 28 * size + 2105360
+  pub length_is : length m ≡ 2084 * size + 16
 
 two_reached : (m : List ℕ) (size offered len room : ℕ) → IsQueueSize size → IsOffered m size offered len room → reached m (driver_layout size) 0 (size + 1) ≡ 0 ∷ 1 ∷ []
 unfolding reached
@@ -71,8 +71,8 @@ unfolding chain_at chain_of
 offered_found m size offered len room o h =
     let some : nat_le size 0 ≡ false = grind (arith, nat_tests, o.size_is.least) in
     let near : nat_lt size 1 ≡ false = grind (arith, nat_tests, o.size_is.least) in
-    let a : nat_lt max_part len ≡ false = grind (arith, nat_tests, o.len_is) in
-    let b : nat_lt max_part room ≡ false = grind (arith, nat_tests, o.room_is) in
+    let a : nat_lt max_part len ≡ false = grind (arith, nat_tests, o.len_is, o.size_is.most) in
+    let b : nat_lt max_part room ≡ false = grind (arith, nat_tests, o.room_is, o.size_is.most) in
     rw (h.index, one_ahead offered o.offered_is, near, h.head, some, two_reached m size offered len room o.size_is h, no_fault m size offered len room o h, readable_is m size offered len room h, writable_is m size offered len room h, total_one (readable_at size) len, total_one (writable_at size) room, a, b) refl
 
 -- the numbers of a descriptor fit
@@ -115,7 +115,7 @@ unfolding descriptor_bytes
 first_length d = refl
 
 -- the offered bytes stand where the device reads them
-pub offer_read : (v : DriverView) (mem bytes : List ℕ) (room : ℕ) → IsOffer v.size v.offered (length bytes) room → length mem ≡ 28 * v.size + 2105360 → IsOffered (offered_in v mem bytes room) v.size v.offered (length bytes) room
+pub offer_read : (v : DriverView) (mem bytes : List ℕ) (room : ℕ) → IsOffer v.size v.offered (length bytes) room → length mem ≡ 2084 * v.size + 16 → IsOffered (offered_in v mem bytes room) v.size v.offered (length bytes) room
 unfolding offered_in
 offer_read v mem bytes room o h =
     let size = v.size in
@@ -146,17 +146,17 @@ offer_read v mem bytes room o h =
     record {
       index = u16_inside d (16 * size + 2) (next_index v.offered) (omega arith) (omega arith);
       head = u16_behind d (16 * size + 2) _ entry (omega arith) (omega arith) ∙ u16_inside c entry 0 (omega arith) (lit< tt);
-      first = descriptor_read e (driver_layout size) 0 first (omega arith) (record { addr = omega arith; len = omega (arith, o.len_is); flags = lit< tt; next = lit< tt }) first_reads;
-      second = descriptor_read e (driver_layout size) 1 second (omega arith) (record { addr = omega arith; len = omega (arith, o.room_is); flags = lit< tt; next = lit< tt }) second_reads;
+      first = descriptor_read e (driver_layout size) 0 first (omega arith) (record { addr = omega arith; len = omega (arith, o.len_is, o.size_is.most); flags = lit< tt; next = lit< tt }) first_reads;
+      second = descriptor_read e (driver_layout size) 1 second (omega arith) (record { addr = omega arith; len = omega (arith, o.room_is, o.size_is.most); flags = lit< tt; next = lit< tt }) second_reads;
       length_is = omega arith;
     }
 
 -- the device finds what the driver offers
-pub offer_found : (v : DriverView) (mem bytes : List ℕ) (room : ℕ) → IsOffer v.size v.offered (length bytes) room → length mem ≡ 28 * v.size + 2105360 → chain_at (offered_in v mem bytes room) (driver_layout v.size) v.offered ≡ Ok (Some (offered_chain v.size (length bytes) room))
+pub offer_found : (v : DriverView) (mem bytes : List ℕ) (room : ℕ) → IsOffer v.size v.offered (length bytes) room → length mem ≡ 2084 * v.size + 16 → chain_at (offered_in v mem bytes room) (driver_layout v.size) v.offered ≡ Ok (Some (offered_chain v.size (length bytes) room))
 offer_found v mem bytes room o h = offered_found (offered_in v mem bytes room) v.size v.offered (length bytes) room o (offer_read v mem bytes room o h)
 
 -- the offered bytes are read in the piece
-pub offer_bytes : (v : DriverView) (mem bytes : List ℕ) (room : ℕ) → IsOffer v.size v.offered (length bytes) room → length mem ≡ 28 * v.size + 2105360 → bytes_of (offered_in v mem bytes room) (record { addr = readable_at v.size; len = length bytes }) ≡ bytes
+pub offer_bytes : (v : DriverView) (mem bytes : List ℕ) (room : ℕ) → IsOffer v.size v.offered (length bytes) room → length mem ≡ 2084 * v.size + 16 → bytes_of (offered_in v mem bytes room) (record { addr = readable_at v.size; len = length bytes }) ≡ bytes
 unfolding offered_in
 offer_bytes v mem bytes room o h =
     let size = v.size in
@@ -207,12 +207,13 @@ next_other : (n : ℕ) → n < 2 ^ 16 → (next_index n == n) ≡ false
 next_other n h = let other : next_index n ≢ n = omega arith in grind (arith, nat_tests, other)
 
 -- what the device hands back is what the driver takes
-pub back_taken : (mem : List ℕ) (r : RingView) (size room len : ℕ) → IsQueueSize size → r.layout ≡ driver_layout size → r.used_index < 2 ^ 16 → len ≤ room → room ≤ max_part → length mem ≡ 28 * size + 2105360 → used_at (used_pushed r mem 0 len) size r.used_index (Some room) ≡ Ok (Some (record { head = 0; len = len }))
+pub back_taken : (mem : List ℕ) (r : RingView) (size room len : ℕ) → IsQueueSize size → r.layout ≡ driver_layout size → r.used_index < 2 ^ 16 → len ≤ room → room ≤ part_room size → length mem ≡ 2084 * size + 16 → used_at (used_pushed r mem 0 len) size r.used_index (Some room) ≡ Ok (Some (record { head = 0; len = len }))
 unfolding used_at
 back_taken mem r size room len s layout fits small top h =
     let at = 20 * size + 8 + 4 + 8 * (r.used_index % size) in
     let place : r.used_index % size < size = omega (arith, s.least) in
     let bound = s.least in
+    let most = s.most in
     let entry = to_le_bytes w32 0 ++ to_le_bytes w32 len in
     let a = put_at mem at entry in
     let index = 20 * size + 8 + 2 in
@@ -225,7 +226,7 @@ back_taken mem r size room len s layout fits small top h =
     rw (layout, moved, other, id, length_is, within) refl
 
 -- .. and gathered of the offered chain
-pub offer_gathered : (v : DriverView) (mem bytes : List ℕ) (room : ℕ) → IsOffer v.size v.offered (length bytes) room → length mem ≡ 28 * v.size + 2105360 → gathered (offered_in v mem bytes room) (offered_chain v.size (length bytes) room).readable ≡ bytes
+pub offer_gathered : (v : DriverView) (mem bytes : List ℕ) (room : ℕ) → IsOffer v.size v.offered (length bytes) room → length mem ≡ 2084 * v.size + 16 → gathered (offered_in v mem bytes room) (offered_chain v.size (length bytes) room).readable ≡ bytes
 offer_gathered v mem bytes room o h = append-nil (bytes_of (offered_in v mem bytes room) (record { addr = readable_at v.size; len = length bytes })) ∙ offer_bytes v mem bytes room o h
 
 scattered_one : (mem bytes : List ℕ) (addr room : ℕ) → length bytes ≤ room → scattered mem (record { addr = addr; len = room } ∷ []) bytes ≡ put_at mem addr bytes
@@ -233,7 +234,7 @@ unfolding scattered
 scattered_one mem bytes addr room h = ap (put_at mem addr) (take_all room bytes h)
 
 -- what the device scatters into the room stands there after it pushed the chain
-pub back_written : (mem bytes : List ℕ) (pieces : List Piece) (r : RingView) (size room head count len : ℕ) → IsQueueSize size → r.layout ≡ driver_layout size → pieces ≡ offered_room size room → len ≡ length bytes → len ≤ room → room ≤ max_part → length mem ≡ 28 * size + 2105360 → written_in (used_pushed r (scattered mem pieces bytes) head count) size len ≡ bytes
+pub back_written : (mem bytes : List ℕ) (pieces : List Piece) (r : RingView) (size room head count len : ℕ) → IsQueueSize size → r.layout ≡ driver_layout size → pieces ≡ offered_room size room → len ≡ length bytes → len ≤ room → room ≤ part_room size → length mem ≡ 2084 * size + 16 → written_in (used_pushed r (scattered mem pieces bytes) head count) size len ≡ bytes
 back_written mem bytes pieces r size room head count len s layout pieces_is len_is small top h =
     let from = writable_at size in
     let at = 20 * size + 8 + 4 + 8 * (r.used_index % size) in

@@ -1,12 +1,11 @@
 -- What one side of a ring writes is what the other reads, whatever stood in the memory before.
 use Rattle.std.specs.Prelude.{◌≡◌, ℕ, ◌^◌, ◌<◌, ◌≤◌, true, List, length, Some, Ok}
-use Rattle.plain_file.specs.Limits.{max_part}
 use Rattle.vring.specs.declared.chains.Piece.{Piece}
 use Rattle.vring.specs.Layout.{is_allowed}
 use Rattle.vring.specs.Pieces.{total, gathered, scattered}
 use Rattle.vring.specs.Chain.{chain_at}
 use Rattle.vring.specs.Ring.{RingView, used_pushed}
-use Rattle.vring.specs.Driver.{DriverView, IsQueueSize, IsOffer, driver_layout, offered_in, offered_chain, offered_room, used_at, written_in}
+use Rattle.vring.specs.Driver.{DriverView, IsQueueSize, IsOffer, driver_layout, part_room, offered_in, offered_chain, offered_room, used_at, written_in}
 
 -- a device that has seen as many chains as were offered pops what the driver offers
 abbrev pub OfferedIsPopped : Type 0
@@ -18,11 +17,11 @@ OfferedIsGathered = (v : DriverView) (mem bytes : List ℕ) (room : ℕ) → IsO
 
 -- what a device pushes that has pushed as many chains as were taken back, the driver takes
 abbrev pub PushedIsTaken : Type 0
-PushedIsTaken = (mem : List ℕ) (r : RingView) (size room len : ℕ) → IsQueueSize size → r.layout ≡ driver_layout size → r.used_index < 2 ^ 16 → len ≤ room → room ≤ max_part → length mem ≡ (driver_layout size).memory → used_at (used_pushed r mem 0 len) size r.used_index (Some room) ≡ Ok (Some (record { head = 0; len = len }))
+PushedIsTaken = (mem : List ℕ) (r : RingView) (size room len : ℕ) → IsQueueSize size → r.layout ≡ driver_layout size → r.used_index < 2 ^ 16 → len ≤ room → room ≤ part_room size → length mem ≡ (driver_layout size).memory → used_at (used_pushed r mem 0 len) size r.used_index (Some room) ≡ Ok (Some (record { head = 0; len = len }))
 
 -- what the device scattered into the offered room before it pushed, the driver finds there
 abbrev pub ScatteredIsWritten : Type 0
-ScatteredIsWritten = (mem bytes : List ℕ) (pieces : List Piece) (r : RingView) (size room head count len : ℕ) → IsQueueSize size → r.layout ≡ driver_layout size → pieces ≡ offered_room size room → len ≡ length bytes → len ≤ room → room ≤ max_part → length mem ≡ (driver_layout size).memory → written_in (used_pushed r (scattered mem pieces bytes) head count) size len ≡ bytes
+ScatteredIsWritten = (mem bytes : List ℕ) (pieces : List Piece) (r : RingView) (size room head count len : ℕ) → IsQueueSize size → r.layout ≡ driver_layout size → pieces ≡ offered_room size room → len ≡ length bytes → len ≤ room → room ≤ part_room size → length mem ≡ (driver_layout size).memory → written_in (used_pushed r (scattered mem pieces bytes) head count) size len ≡ bytes
 
 -- the pieces of the offered room take as many bytes as were offered
 abbrev pub RoomIsOffered : Type 0

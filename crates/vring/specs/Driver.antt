@@ -1,7 +1,6 @@
 -- What the driver's side keeps, where its memory has what, and what its calls do.
 use Rattle.std.specs.Prelude.{◌≡◌, ℕ, ◌+◌, ◌*◌, ◌%◌, ◌==◌, ◌≤◌, ◌<◌, ◌^◌, Bool, true, false, ◌&&◌, nat_le, List, [], ◌∷◌, length, take, drop, Option, Some, None, Result, Ok, Err, if◌then◌else◌}
 use Rattle.std.specs.Int.{w16, to_le_bytes, is_power_of_two}
-use Rattle.plain_file.specs.Limits.{max_part}
 use Rattle.vring.specs.declared.layouts.Layout.{Layout}
 use Rattle.vring.specs.declared.chains.Piece.{Piece}
 use Rattle.vring.specs.declared.chains.Chain.{Chain}
@@ -31,13 +30,17 @@ pub record IsQueueSize (size : ℕ) : Type 0 where
 abbrev pub readable_at : ℕ → ℕ
 readable_at size = 28 * size + 16
 
--- .. and behind the most of these the room for what it writes
+-- .. of which there are at most 1,028 for each descriptor, so that 1,024 descriptors take the most of a part, ..
+abbrev pub part_room : ℕ → ℕ
+part_room size = 1028 * size
+
+-- .. and behind the most of these, as many bytes of room for what it writes
 abbrev pub writable_at : ℕ → ℕ
-writable_at size = readable_at size + max_part
+writable_at size = readable_at size + part_room size
 
 -- where the areas lie in the driver's memory, which ends where the most of the room does
 abbrev pub driver_layout : ℕ → Layout
-driver_layout size = record { size = size; descriptors = 0; available = 16 * size; used = 20 * size + 8; memory = 28 * size + 2105360 }
+driver_layout size = record { size = size; descriptors = 0; available = 16 * size; used = 20 * size + 8; memory = 2084 * size + 16 }
 
 -- The memory with a chain of these bytes and of so much room: the bytes, descriptor 0 of them with
 -- NEXT, descriptor 1 of the room with WRITE, the entry of head 0, and then the available index.
@@ -79,8 +82,8 @@ written_in mem size len = take len (drop (writable_at size) mem)
 pub record IsOffer (size offered len room : ℕ) : Type 0 where
   pub size_is : IsQueueSize size
   pub offered_is : offered < 2 ^ 16
-  pub len_is : len ≤ max_part
-  pub room_is : room ≤ max_part
+  pub len_is : len ≤ part_room size
+  pub room_is : room ≤ part_room size
 
 -- the one piece of so much room, which the device may write
 abbrev pub offered_room : ℕ → ℕ → List Piece

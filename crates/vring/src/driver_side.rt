@@ -1,9 +1,7 @@
 ghost use Rattle.std.specs.Prelude.{◌≡◌, ◌+◌, ◌*◌, ◌^◌, ◌<◌, ◌≤◌, length, replicate, Some, None, IfOk};
-ghost use Rattle.plain_file.specs.Limits.{max_part};
 ghost use Rattle.vring.specs.Ring.{next_index};
-ghost use Rattle.vring.specs.Driver.{DriverView, IsQueueSize, driver_layout, is_expected, offered_in, used_at, Takes, written_in};
+ghost use Rattle.vring.specs.Driver.{DriverView, IsQueueSize, driver_layout, part_room, is_expected, offered_in, used_at, Takes, written_in};
 
-use crate::MAX_PART;
 use crate::descriptors::{Descriptor, NEXT, WRITE};
 use crate::memory::GuestMem;
 use crate::numbers::{read_u16, read_u32};
@@ -11,6 +9,10 @@ use plain_file::{Blob, Memory};
 use std::alloc::Global;
 use std::marker::Model;
 use thiserror::Error;
+
+/// How many bytes of either part of a chain a driver's ring takes for each of its descriptors: 1,024
+/// descriptors take [`MAX_PART`](crate::MAX_PART).
+pub const PART_PER_DESCRIPTOR: u32 = 1028;
 
 /// A chain that the device handed back.
 #[derive(Clone, Copy, Debug, PartialEq, Eq)]
@@ -34,8 +36,8 @@ pub struct BadUsed {
 /// time.
 ///
 /// Its memory has the descriptor table at 0, the available ring at 16 bytes a descriptor, the used
-/// ring 8 bytes behind 20 a descriptor, and behind them room for both parts of a chain. It keeps two
-/// indices of its own, both from 0 on and modulo 2^16: how many chains it offered, and how many it
+/// ring 8 bytes behind 20 a descriptor, and behind them room for both parts of a chain, of
+/// [`PART_PER_DESCRIPTOR`] bytes a descriptor each. It keeps two indices of its own, both from 0 on and modulo 2^16: how many chains it offered, and how many it
 /// took back.
 ///
 /// Every call wants a memory as long as the one that came with the ring. What stands in it may be
@@ -66,7 +68,7 @@ impl DriverRing {
         ensures ring { IfOk result (λ p. p.0 ≡ record { size = size; offered = 0; taken = 0; room = None }) }
         ensures memory { IfOk result (λ p. p.1 ≡ replicate (driver_layout size).memory 0) }
     {
-        let len = 28 * size as usize + 16 + 2 * MAX_PART as usize;
+        let len = 28 * size as usize + 16 + 2 * part_room(size);
         let bytes = Blob::from_vec(vec![in alloc; 0u8; len]?);
         let ring = DriverRing {
             size,
@@ -122,13 +124,13 @@ impl DriverRing {
     ///
     /// The bytes, the two descriptors and the available ring's entry are written before the
     /// available index is raised (VIRTIO 1.2 section 2.7.13). No chain is offered that wasn't taken
-    /// back, and both parts have at most [`MAX_PART`](crate::MAX_PART) bytes.
+    /// back, and both parts have at most [`PART_PER_DESCRIPTOR`] bytes a descriptor of the ring.
     #[tactic(auto, unfolding(crate::specs::Driver::offered_in))]
     pub fn offer(&mut self, mem: &mut GuestMem, readable: &[u8], room: u32) -> u16
         requires memory { length mem.old ≡ (driver_layout self.old.size).memory }
         requires nothing { self.old.room ≡ None }
-        requires readable { length readable.now ≤ max_part }
-        requires room { room ≤ max_part }
+        requires readable { length readable.now ≤ part_room self.old.size }
+        requires room { room ≤ part_room self.old.size }
         ensures head { result ≡ 0 }
         ensures memory { mem.new ≡ offered_in self.old mem.old readable.now room }
         ensures len { length mem.new ≡ length mem.old }
@@ -143,7 +145,7 @@ impl DriverRing {
             next: 1,
         };
         let second = Descriptor {
-            addr: readable_at as u64 + MAX_PART as u64,
+            addr: (readable_at + part_room(self.size)) as u64,
             len: room,
             flags: WRITE,
             next: 0,
@@ -181,16 +183,23 @@ impl DriverRing {
         }
     }
 
-    /// The first `len` bytes of the room, at most [`MAX_PART`](crate::MAX_PART): what the device
-    /// wrote, where it is a [`Used`] chain's length.
+    /// The first `len` bytes of the room, at most [`PART_PER_DESCRIPTOR`] a descriptor: what the
+    /// device wrote, where it is a [`Used`] chain's length.
     pub fn written<'a>(&self, mem: &'a GuestMem, len: u32) -> &'a [u8]
         requires memory { length mem.now ≡ (driver_layout self.now.size).memory }
-        requires len { len ≤ max_part }
+        requires len { len ≤ part_room self.now.size }
         ensures { result.now ≡ written_in mem.now self.now.size len }
     {
-        let at = 28 * self.size as usize + 16 + MAX_PART as usize;
+        let at = 28 * self.size as usize + 16 + part_room(self.size);
         &mem.as_slice()[at..at + len as usize]
     }
+}
+
+// How many bytes either part of a chain may have.
+fn part_room(size: u16) -> usize
+    ensures { result ≡ part_room size }
+{
+    PART_PER_DESCRIPTOR as usize * size as usize
 }
 
 // What stands in the used ring at the place of the next chain to be taken back.

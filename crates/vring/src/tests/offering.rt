@@ -22,7 +22,8 @@ impl Offering {
 
     fn offer(&mut self, rt: &impl Abort, readable: &[u8], room: u32) {
         assert!(rt; self.driver.room().is_none());
-        assert!(rt; readable.len() <= 1_052_672 && room <= 1_052_672);
+        let most = PART_PER_DESCRIPTOR * self.driver.size() as u32;
+        assert!(rt; readable.len() <= most as usize && room <= most);
         assert!(rt; self.driver.offer(&mut self.mem, readable, room) == 0);
     }
 }
@@ -40,7 +41,7 @@ impl Offering {
 
     // The device writes three bytes, and hands the chain back.
     fn hand_back(&mut self, rt: &impl Abort) -> Result<(), Fail> {
-        self.mem.write(0x101080, b"xyz")?;
+        self.mem.write(4_240, b"xyz")?;
         self.mem.write(90, &[1, 0, 0, 0, 0, 0, 3, 0, 0, 0])?;
         self.takes(rt, Ok(Some(Used { head: 0, len: 3 })));
         assert!(rt; self.driver.written(&self.mem, 3) == b"xyz".as_slice());
@@ -49,11 +50,11 @@ impl Offering {
     }
 }
 
-// At size 4 the available ring is at 64, the used ring at 88, what is read at 128, and the room 1 MiB
-// and 4 KiB behind it: what stands there when "abc" is offered with room for 7 bytes.
+// At size 4 the available ring is at 64, the used ring at 88, what is read at 128, and the room 4,112
+// bytes behind it: what stands there when "abc" is offered with room for 7 bytes.
 const OFFERED: [(usize, &str); 4] = [
     (0, "8000000000000000 03000000 0100 0100"),
-    (16, "8010100000000000 07000000 0200 0000"),
+    (16, "9010000000000000 07000000 0200 0000"),
     (64, "0000 0100 0000 0000"),
     (128, "616263 00"),
 ];
@@ -84,7 +85,7 @@ fn offers_by_exact_bytes(rt: HostRuntime) -> Result<(), Fail> {
     let alloc = rt.alloc();
     let mut side = Offering::new(alloc, 4)?;
     assert!(rt; side.driver.device() == (0, 64, 88) && side.driver.size() == 4);
-    assert!(rt; side.mem.len() == 2_105_472 && side.mem.as_slice().iter().all(|b| *b == 0));
+    assert!(rt; side.mem.len() == 8_352 && side.mem.as_slice().iter().all(|b| *b == 0));
     side.is_at(&rt, 0, 0, None);
     side.offer(&rt, b"abc", 7);
     check_places(&rt, alloc, &side.mem, &OFFERED)?;
