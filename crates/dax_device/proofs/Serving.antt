@@ -33,7 +33,7 @@ pub serving_new : (s : State) (files : BoardView) (m : MapView) (pages : ℕ) (n
 serving_new s files m pages names firsts none all es ef em = rw (es, ef, em, none, all) (serving_at_start pages)
 
 -- a chain keeps it
-pub serving_after_chain : (old new : World) (readable : List ℕ) (room : ℕ) (r : Result (List ℕ) Memory) → OnOk r (new ≡ (device_step old readable room).0) → OnErr r (new ≡ old) → IsServing old → IsServing new
+pub serving_after_chain : (old new : World) (readable : List ℕ) (room : ℕ) (r : Result (Unit {0}) Memory) → OnOk r (new ≡ (device_step old readable room).0) → OnErr r (new ≡ old) → IsServing old → IsServing new
 serving_after_chain old new readable room (Ok reply) step memory h = rw step (record {
   servable = IsServable-device_step old readable room h.servable;
   names = NamesFiles-device_step old readable room h.servable h.names;

@@ -1,4 +1,4 @@
-ghost use Rattle.std.specs.Prelude.{◌≡◌, ◌≤◌, length, IfOk, OnOk};
+ghost use Rattle.std.specs.Prelude.{◌≡◌, ◌≤◌, ◌++◌, length, IfOk, OnOk, OnErr};
 ghost use Rattle.plain_file.specs.Limits.{max_part, max_transfer};
 ghost use Rattle.fuse_device.specs.Promises.{world};
 ghost use Rattle.fuse_device.specs.Steps.{device_step};
@@ -47,20 +47,41 @@ impl Device {
         })
     }
 
-    /// Serves a chain, of at most 1,052,672 readable bytes and with so much room, and gives what goes
-    /// into its writable part: a reply to the request, or no bytes. After `Memory`, which comes where
-    /// an allocation was refused, nothing has changed.
+    /// Serves a chain, of at most 1,052,672 readable bytes and with so much room, and appends to `out`
+    /// what goes into its writable part: a reply to the request, or no bytes. After `Memory`, which
+    /// comes where an allocation was refused, nothing has changed, the bytes of `out` neither.
+    pub fn reply_into(
+        &mut self,
+        alloc: Global,
+        readable: &[u8],
+        room: u32,
+        out: &mut Vec<u8>,
+    ) -> Result<(), Memory>
+        requires { length readable.now ≤ max_part }
+        ensures reply { OnOk result (out.new.items ≡ out.old.items ++ (device_step self.old readable.now room).1) }
+        ensures step { OnOk result (self.new ≡ (device_step self.old readable.now room).0) }
+        ensures answer { IsAnswer readable.now (device_step self.old readable.now room).1 }
+        ensures fits { length (device_step self.old readable.now room).1 ≤ room }
+        ensures memory { OnErr result (self.new ≡ self.old) }
+        ensures same { OnErr result (out.new.items ≡ out.old.items) }
+    {
+        self.daemon
+            .serve_chain_into(alloc, readable, room, &mut self.files, &mut self.map, out)
+    }
+
+    /// Serves a chain as [`reply_into`](Device::reply_into) does, and gives the bytes in a buffer of
+    /// their own. After `Memory`, which comes where an allocation was refused, nothing has changed.
     pub fn reply(&mut self, alloc: Global, readable: &[u8], room: u32) -> Result<Blob, Memory>
         requires { length readable.now ≤ max_part }
         ensures reply { IfOk result (λ b. b ≡ (device_step self.old readable.now room).1) }
         ensures step { OnOk result (self.new ≡ (device_step self.old readable.now room).0) }
         ensures answer { IfOk result (IsAnswer readable.now) }
         ensures fits { IfOk result (λ b. length b ≤ room) }
+        ensures memory { OnErr result (self.new ≡ self.old) }
     {
-        let reply = self
-            .daemon
-            .serve_chain(alloc, readable, room, &mut self.files, &mut self.map)?;
-        Ok(reply)
+        let mut reply = Vec::new(alloc);
+        self.reply_into(alloc, readable, room, &mut reply)?;
+        Ok(Blob::from_vec(reply))
     }
 
     /// Loads at most 1,048,576 bytes from the window, as `load_window` does.

@@ -14,6 +14,8 @@ use window_access::WindowRefusal;
 #[derive(Debug, Drop)]
 pub struct Serve {
     device: Device,
+    // The last reply to a chain, whose room is used again.
+    reply: Vec<u8>,
 }
 
 impl Serve {
@@ -28,10 +30,13 @@ impl Serve {
         requires { length readable.now ≤ max_part }
         ensures { OnOk result (Makes (chain_output (device_step self.old.device readable.now room)) out.old.items self.new.device out.new.items) }
     {
-        let reply = self.device.reply(alloc, readable, room)?;
+        self.reply.clear();
+        self.device
+            .reply_into(alloc, readable, room, &mut self.reply)?;
+        let reply = self.reply.as_slice();
         out.push(1)?;
         out.extend_from_slice(&(reply.len() as u32).to_le_bytes())?;
-        out.extend_from_slice(reply.as_slice())?;
+        out.extend_from_slice(reply)?;
         Ok(())
     }
 
@@ -143,6 +148,7 @@ impl Responder for Serve {
     fn start(alloc: Global, pages: u32) -> Result<Serve, Memory> {
         Ok(Serve {
             device: Device::new(alloc, pages)?,
+            reply: Vec::new(alloc),
         })
     }
 
