@@ -1,5 +1,5 @@
 -- The first line of lists of lines, one after another.
-use Rattle.std.proofs.Common.{◌≡◌, ◌∙◌, ap, sym, refl, ℕ, zero, suc, ◌+◌, ◌<◌, Bool, false, if◌then◌else◌, List, [], ◌∷◌, ◌++◌, length, drop, get_or, Option, Some, None, length-append, inl, inr, arith}
+use Rattle.std.proofs.Common.{◌≡◌, ◌∙◌, ap, sym, refl, ℕ, zero, suc, ◌+◌, ◌<◌, Bool, true, false, if◌then◌else◌, List, [], ◌∷◌, ◌++◌, length, drop, get_or, Option, Some, None, length-append, inl, inr, arith}
 use Rattle.std.proofs.lemmas.Bool.{cases_Bool}
 use Rattle.std.specs.List.{position_from}
 use Rattle.dax_audit.specs.declared.transcripts.FilePart.{FilePart}
@@ -66,6 +66,10 @@ parts_miss test part n i j m xs x whole same within at so miss next =
     ap (λ k. position_from test k (parts_from part (i + 1) (drop (i + 1) xs))) next ∙ sym (rw here at (parts_step test part n i xs x within at)) ∙ so
 
 -- the whole of a transcript
+pub whole_head : (test : Item → Bool) (t : Transcript) → test Head ≡ true → position_from test 1 (items t) ≡ Some 1
+unfolding items
+whole_head test t hit = rw hit refl
+
 pub whole_position : (test : Item → Bool) (t : Transcript) → test Head ≡ false →
     position_from test 1 (items t) ≡ (if test Ranges then Some 2 else
     or_else (position_from test 3 (parts_from file_items 0 t.files)) (or_else (position_from test (3 + length (parts_from file_items 0 t.files)) (parts_from guest_items 0 t.guests))

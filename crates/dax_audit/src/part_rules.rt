@@ -5,11 +5,11 @@ ghost use Rattle.dax_audit.specs.Rules.{is_line_of_file, is_file_line, lacks_lin
 
 use crate::picks::pick;
 use crate::rules::{guest_calls, guest_lines};
-use crate::transcripts::{EntryLine, FilePart, GuestPart, Numbered, Transcript};
-use crate::walks::Judge;
+use crate::transcripts::{FilePart, Transcript};
+use crate::walks::{Judge, Row};
 use dax_script::{FileLine, Script};
 use plain_file::Memory;
-use range_tree::{LogEntry, first_unsound};
+use range_tree::first_unsound;
 use std::alloc::Global;
 
 fn is_file_line(line: &FileLine, part: &FilePart) -> bool
@@ -38,41 +38,16 @@ impl<'a> Judge for Files<'a> {
     ghost breaks = { λ j. breaks_files j.script.now j.t.now };
 
     #[tactic(auto, unfolding(crate::specs::Rules::breaks_files))]
-    fn on_ranges(&self) -> bool {
-        self.t.ranges != self.script.ranges
-    }
-
-    #[tactic(auto, unfolding(crate::specs::Rules::breaks_files))]
-    fn on_file(&self, file: usize, part: &FilePart) -> bool {
-        match self.script.files.get(file) {
-            Some(line) => !is_file_line(line, part),
-            None => true,
+    fn is_broken(&self, row: Row<'_>) -> bool {
+        match row {
+            Row::Ranges => self.t.ranges != self.script.ranges,
+            Row::File { file, part } => match self.script.files.get(file) {
+                Some(line) => !is_file_line(line, part),
+                None => true,
+            },
+            Row::Guest { .. } | Row::End => self.t.files.len() < self.script.files.len(),
+            _ => false,
         }
-    }
-
-    #[tactic(auto, unfolding(crate::specs::Rules::breaks_files))]
-    fn on_entry(&self, file: usize, place: usize, entry: &EntryLine) -> bool {
-        false
-    }
-
-    #[tactic(auto, unfolding(crate::specs::Rules::breaks_files))]
-    fn on_log(&self, file: usize, place: usize, entry: &LogEntry) -> bool {
-        false
-    }
-
-    #[tactic(auto, unfolding(crate::specs::Rules::breaks_files))]
-    fn on_guest(&self, guest: usize, part: &GuestPart) -> bool {
-        self.t.files.len() < self.script.files.len()
-    }
-
-    #[tactic(auto, unfolding(crate::specs::Rules::breaks_files))]
-    fn on_call(&self, guest: usize, call: usize, line: &Numbered) -> bool {
-        false
-    }
-
-    #[tactic(auto, unfolding(crate::specs::Rules::breaks_files))]
-    fn on_end(&self) -> bool {
-        self.t.files.len() < self.script.files.len()
     }
 }
 
@@ -103,44 +78,22 @@ impl<'a> Judge for Guests<'a> {
     ghost breaks = { λ j. breaks_guests j.script.now j.t.now };
 
     #[tactic(auto, unfolding(crate::specs::Rules::breaks_guests))]
-    fn on_ranges(&self) -> bool {
-        false
-    }
-
-    #[tactic(auto, unfolding(crate::specs::Rules::breaks_guests))]
-    fn on_file(&self, file: usize, part: &FilePart) -> bool {
-        false
-    }
-
-    #[tactic(auto, unfolding(crate::specs::Rules::breaks_guests))]
-    fn on_entry(&self, file: usize, place: usize, entry: &EntryLine) -> bool {
-        false
-    }
-
-    #[tactic(auto, unfolding(crate::specs::Rules::breaks_guests))]
-    fn on_log(&self, file: usize, place: usize, entry: &LogEntry) -> bool {
-        false
-    }
-
-    #[tactic(auto, unfolding(crate::specs::Rules::breaks_guests))]
-    fn on_guest(&self, guest: usize, part: &GuestPart) -> bool {
-        let wrong = part.guest as usize != guest;
-        let unknown = guest >= self.script.guests.len();
-        wrong || unknown || lacks_lines(self.script, self.t, guest)
-    }
-
-    #[tactic(auto, unfolding(crate::specs::Rules::breaks_guests))]
-    fn on_call(&self, guest: usize, call: usize, line: &Numbered) -> bool {
-        if line.call as usize != call {
-            return true;
+    fn is_broken(&self, row: Row<'_>) -> bool {
+        match row {
+            Row::Guest { guest, part } => {
+                let wrong = part.guest as usize != guest;
+                let unknown = guest >= self.script.guests.len();
+                wrong || unknown || lacks_lines(self.script, self.t, guest)
+            }
+            Row::Call { guest, call, line } => {
+                line.call as usize != call || pick(guest_calls(self.script, guest), call).is_none()
+            }
+            Row::End => {
+                let few = self.t.guests.len() < self.script.guests.len();
+                few || lacks_lines(self.script, self.t, self.t.guests.len())
+            }
+            _ => false,
         }
-        pick(guest_calls(self.script, guest), call).is_none()
-    }
-
-    #[tactic(auto, unfolding(crate::specs::Rules::breaks_guests))]
-    fn on_end(&self) -> bool {
-        let few = self.t.guests.len() < self.script.guests.len();
-        few || lacks_lines(self.script, self.t, self.t.guests.len())
     }
 }
 
@@ -174,42 +127,15 @@ impl<'a> Judge for Logs<'a> {
 
     ghost breaks = { λ j. breaks_logs j.script.now j.t.now };
 
-    #[tactic(auto, unfolding(crate::specs::Rules::breaks_logs))]
-    fn on_ranges(&self) -> bool {
-        false
-    }
-
-    #[tactic(auto, unfolding(crate::specs::Rules::breaks_logs))]
-    fn on_file(&self, file: usize, part: &FilePart) -> bool {
-        false
-    }
-
-    #[tactic(auto, unfolding(crate::specs::Rules::breaks_logs))]
-    fn on_entry(&self, file: usize, place: usize, entry: &EntryLine) -> bool {
-        false
-    }
-
     #[tactic(auto, using(crate::proofs::Singles::unsound_there, crate::proofs::Singles::unsound_nowhere), unfolding(crate::specs::Rules::breaks_logs))]
-    fn on_log(&self, file: usize, place: usize, entry: &LogEntry) -> bool {
-        match pick(self.unsound, file) {
-            Some(first) => is_first(*first, place),
-            None => false,
+    fn is_broken(&self, row: Row<'_>) -> bool {
+        match row {
+            Row::Log { file, place, .. } => match pick(self.unsound, file) {
+                Some(first) => is_first(*first, place),
+                None => false,
+            },
+            _ => false,
         }
-    }
-
-    #[tactic(auto, unfolding(crate::specs::Rules::breaks_logs))]
-    fn on_guest(&self, guest: usize, part: &GuestPart) -> bool {
-        false
-    }
-
-    #[tactic(auto, unfolding(crate::specs::Rules::breaks_logs))]
-    fn on_call(&self, guest: usize, call: usize, line: &Numbered) -> bool {
-        false
-    }
-
-    #[tactic(auto, unfolding(crate::specs::Rules::breaks_logs))]
-    fn on_end(&self) -> bool {
-        false
     }
 }
 

@@ -1,16 +1,14 @@
 ghost use Rattle.std.specs.Prelude.{◌≡◌, ℕ, ◌<◌, true, not, length, map, slice_get, Some};
 ghost use Rattle.dax_script.specs.Asks.{hold_places, target, calls_of, call_at};
 ghost use Rattle.dax_audit.specs.declared.transcripts.Numbered.{Numbered};
-ghost use Rattle.dax_audit.specs.Items.{Head, Ranges, File, Entry, Log, Guest, Call as call_item, End};
 ghost use Rattle.dax_audit.specs.Guests.{place_of, done_by};
 ghost use Rattle.dax_audit.specs.Rules.{lines_of, line_at, entry_at, is_done_at, names, past_at, pasts, has_entry, is_named, has_entry_at, breaks_entries, names_line};
 ghost use Rattle.dax_audit.specs.Tables.{AreHolds};
 
 use crate::picks::pick;
-use crate::transcripts::{EntryLine, FilePart, GuestPart, Line, Numbered, Transcript};
-use crate::walks::Judge;
+use crate::transcripts::{EntryLine, Line, Numbered, Transcript};
+use crate::walks::{Judge, Row};
 use dax_script::{Call, Script, Target, target_of};
-use range_tree::LogEntry;
 
 impl Line {
     /// The place of a call that is done.
@@ -126,20 +124,24 @@ impl<'a> Judge for Entries<'a> {
 
     ghost breaks = { λ j. breaks_entries j.script.now j.t.now };
 
-    #[tactic(auto, unfolding(crate::specs::Rules::breaks_call, crate::specs::Rules::breaks_entry))]
-    fn on_ranges(&self) -> bool {
-        false
-    }
-
-    #[tactic(auto, unfolding(crate::specs::Rules::breaks_call, crate::specs::Rules::breaks_entry))]
-    fn on_file(&self, file: usize, part: &FilePart) -> bool {
-        false
-    }
-
     #[tactic(auto, using(crate::proofs::Singles::or_nothing), unfolding(crate::specs::Rules::breaks_call, crate::specs::Rules::breaks_entry))]
-    fn on_entry(&self, file: usize, place: usize, entry: &EntryLine) -> bool {
+    fn is_broken(&self, row: Row<'_>) -> bool {
+        match row {
+            Row::Entry { file, place, entry } => !self.is_named(file, place, entry),
+            Row::Call { guest, call, line } => !self.has_entry(guest, call, &line.line),
+            _ => false,
+        }
+    }
+}
+
+impl<'a> Entries<'a> {
+    // Whether the call that an entry names is done at the entry's place.
+    fn is_named(&self, file: usize, place: usize, entry: &EntryLine) -> bool
+        requires holds { AreHolds self.now.script.now self.now.holds.now }
+        ensures { result ≡ is_named self.now.script.now self.now.t.now file place entry.now }
+    {
         let guest = entry.guest as usize;
-        !is_done_at(
+        is_done_at(
             guest_calls(self.script, guest),
             guest_holds(self.script, self.holds, guest),
             guest_lines(self.t, guest),
@@ -149,33 +151,22 @@ impl<'a> Judge for Entries<'a> {
         )
     }
 
-    #[tactic(auto, unfolding(crate::specs::Rules::breaks_call, crate::specs::Rules::breaks_entry))]
-    fn on_log(&self, file: usize, place: usize, entry: &LogEntry) -> bool {
-        false
-    }
-
-    #[tactic(auto, unfolding(crate::specs::Rules::breaks_call, crate::specs::Rules::breaks_entry))]
-    fn on_guest(&self, guest: usize, part: &GuestPart) -> bool {
-        false
-    }
-
-    #[tactic(auto, using(crate::proofs::Singles::has_entry_is), unfolding(crate::specs::Rules::breaks_call, crate::specs::Rules::breaks_entry))]
-    fn on_call(&self, guest: usize, call: usize, line: &Numbered) -> bool {
+    // Whether a call that is done has the entry at its place.
+    #[tactic(auto, using(crate::proofs::Singles::has_entry_is))]
+    fn has_entry(&self, guest: usize, call: usize, line: &Line) -> bool
+        requires holds { AreHolds self.now.script.now self.now.holds.now }
+        ensures { result ≡ has_entry_at self.now.script.now self.now.t.now guest call line.now }
+    {
         let calls = guest_calls(self.script, guest);
         let Some(asked) = pick(calls, call) else {
-            return false;
+            return true;
         };
-        let Some(place) = line.line.place() else {
-            return false;
+        let Some(place) = line.place() else {
+            return true;
         };
         match target_of(calls, guest_holds(self.script, self.holds, guest), asked) {
-            Some(to) => !is_entry_of(self.t, to.file, place, guest, call),
-            None => true,
+            Some(to) => is_entry_of(self.t, to.file, place, guest, call),
+            None => false,
         }
-    }
-
-    #[tactic(auto, unfolding(crate::specs::Rules::breaks_call, crate::specs::Rules::breaks_entry))]
-    fn on_end(&self) -> bool {
-        false
     }
 }

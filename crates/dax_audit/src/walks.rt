@@ -4,17 +4,57 @@ ghost use Rattle.dax_audit.specs.declared.transcripts.EntryLine.{EntryLine};
 ghost use Rattle.dax_audit.specs.declared.transcripts.FilePart.{FilePart};
 ghost use Rattle.dax_audit.specs.declared.transcripts.GuestPart.{GuestPart};
 ghost use Rattle.dax_audit.specs.declared.transcripts.Numbered.{Numbered};
-ghost use Rattle.dax_audit.specs.Items.{Head, Ranges, File, Entry, Log, Guest, Call, End, each_from, parts_from, file_items, guest_items, items};
+ghost use Rattle.dax_audit.specs.Items.{Entry, Log, Call, each_from, parts_from, file_items, guest_items, items};
+ghost use Rattle.dax_audit.specs.Rows.{item_of, StandsIn};
 ghost use Rattle.dax_audit.specs.Found.{found_in};
 ghost use Rattle.dax_audit.specs.Rules.{entry_at, lines_of};
 
 use crate::transcripts::{EntryLine, FilePart, GuestPart, Numbered, Transcript};
 use range_tree::LogEntry;
 
+/// A line of a transcript, with its places.
+#[derive(Clone, Copy)]
+pub enum Row<'a> {
+    /// The version.
+    Head,
+    /// The number of ranges.
+    Ranges,
+    /// A file.
+    File {
+        file: usize,
+        part: &'a FilePart,
+    },
+    /// An entry of a file's history.
+    Entry {
+        file: usize,
+        place: usize,
+        entry: &'a EntryLine,
+    },
+    /// An entry of a file's placement log.
+    Log {
+        file: usize,
+        place: usize,
+        entry: &'a LogEntry,
+    },
+    /// A guest.
+    Guest {
+        guest: usize,
+        part: &'a GuestPart,
+    },
+    /// The line of a guest's call.
+    Call {
+        guest: usize,
+        call: usize,
+        line: &'a Numbered,
+    },
+    /// The last line.
+    End,
+}
+
 /// A rule, which tells of each line of a transcript whether it is broken there. `ready` is what the
 /// rule's tables have to be.
 pub trait Judge {
-    ghost use Rattle.std.specs.Prelude.{ℕ, Bool};
+    ghost use Rattle.std.specs.Prelude.{Bool};
     ghost use Rattle.dax_audit.specs.declared.transcripts.Transcript.{Transcript};
     ghost use Rattle.dax_audit.specs.Items.{Item};
 
@@ -24,36 +64,11 @@ pub trait Judge {
 
     ghost breaks: { Self → Item → Bool };
 
-    fn on_ranges(&self) -> bool
-        requires { ready self.now }
-        ensures value { result ≡ breaks self.now Ranges }
-        ensures head { breaks self.now Head ≡ false };
-
-    fn on_file(&self, file: usize, part: &FilePart) -> bool
-        requires { ready self.now }
-        ensures { result ≡ breaks self.now (File file part.now) };
-
-    fn on_entry(&self, file: usize, place: usize, entry: &EntryLine) -> bool
+    /// Whether it is broken at this line.
+    fn is_broken(&self, row: Row<'_>) -> bool
         requires ready { ready self.now }
-        requires there { entry_at (of self.now) file place ≡ Some entry.now }
-        ensures { result ≡ breaks self.now (Entry file place entry.now) };
-
-    fn on_log(&self, file: usize, place: usize, entry: &LogEntry) -> bool
-        requires { ready self.now }
-        ensures { result ≡ breaks self.now (Log file place entry.now) };
-
-    fn on_guest(&self, guest: usize, part: &GuestPart) -> bool
-        requires { ready self.now }
-        ensures { result ≡ breaks self.now (Guest guest part.now) };
-
-    fn on_call(&self, guest: usize, call: usize, line: &Numbered) -> bool
-        requires ready { ready self.now }
-        requires there { slice_get (lines_of (of self.now) guest) call ≡ Some line.now }
-        ensures { result ≡ breaks self.now (Call guest call line.now) };
-
-    fn on_end(&self) -> bool
-        requires { ready self.now }
-        ensures { result ≡ breaks self.now End };
+        requires there { StandsIn (of self.now) row }
+        ensures { result ≡ breaks self.now (item_of row.entry) };
 }
 
 fn in_entries<J: Judge>(judge: &J, file: usize, entries: &[EntryLine], from: u64) -> Option<u64>
@@ -64,7 +79,7 @@ fn in_entries<J: Judge>(judge: &J, file: usize, entries: &[EntryLine], from: u64
 {
     let mut place = 0;
     for entry in entries {
-        if judge.on_entry(file, place, entry) {
+        if judge.is_broken(Row::Entry { file, place, entry }) {
             return Some(from + place as u64);
         }
         place += 1;
@@ -79,7 +94,7 @@ fn in_log<J: Judge>(judge: &J, file: usize, log: &[LogEntry], from: u64) -> Opti
 {
     let mut place = 0;
     for entry in log {
-        if judge.on_log(file, place, entry) {
+        if judge.is_broken(Row::Log { file, place, entry }) {
             return Some(from + place as u64);
         }
         place += 1;
@@ -95,7 +110,7 @@ fn in_calls<J: Judge>(judge: &J, guest: usize, lines: &[Numbered], from: u64) ->
 {
     let mut call = 0;
     for line in lines {
-        if judge.on_call(guest, call, line) {
+        if judge.is_broken(Row::Call { guest, call, line }) {
             return Some(from + call as u64);
         }
         call += 1;
@@ -110,7 +125,7 @@ fn in_file<J: Judge>(judge: &J, file: usize, part: &FilePart, from: u64) -> Opti
     requires few { from + length (file_items file part.now) < 2 ^ 64 }
     ensures { result ≡ position_from (J.breaks judge.now) from (file_items file part.now) }
 {
-    if judge.on_file(file, part) {
+    if judge.is_broken(Row::File { file, part }) {
         return Some(from);
     }
     match in_entries(judge, file, part.entries.as_slice(), from + 1) {
@@ -151,7 +166,7 @@ fn in_guest<J: Judge>(judge: &J, guest: usize, part: &GuestPart, from: u64) -> O
     requires few { from + length (guest_items guest part.now) < 2 ^ 64 }
     ensures { result ≡ position_from (J.breaks judge.now) from (guest_items guest part.now) }
 {
-    if judge.on_guest(guest, part) {
+    if judge.is_broken(Row::Guest { guest, part }) {
         return Some(from);
     }
     in_calls(judge, guest, part.lines.as_slice(), from + 1)
@@ -178,14 +193,17 @@ fn in_guests<J: Judge>(judge: &J, guests: &[GuestPart], from: u64) -> Result<u64
 }
 
 /// The first line that breaks a rule, counted from 1.
-#[tactic(auto, using(crate::proofs::Places::whole_position, crate::proofs::Places::whole_length))]
+#[tactic(auto, using(crate::proofs::Places::whole_head, crate::proofs::Places::whole_position, crate::proofs::Places::whole_length))]
 pub fn first_broken<J: Judge>(t: &Transcript, judge: &J) -> Option<u64>
     requires ready { J.ready judge.now }
     requires of { J.of judge.now ≡ t.now }
     requires few { length (items t.now) + 1 < 2 ^ 64 }
     ensures { result ≡ position_from (J.breaks judge.now) 1 (items t.now) }
 {
-    if judge.on_ranges() {
+    if judge.is_broken(Row::Head) {
+        return Some(1);
+    }
+    if judge.is_broken(Row::Ranges) {
         return Some(2);
     }
     let guests = match in_files(judge, t.files.as_slice(), 3) {
@@ -196,5 +214,9 @@ pub fn first_broken<J: Judge>(t: &Transcript, judge: &J) -> Option<u64>
         Ok(line) => line,
         Err(line) => return Some(line),
     };
-    if judge.on_end() { Some(end) } else { None }
+    if judge.is_broken(Row::End) {
+        Some(end)
+    } else {
+        None
+    }
 }
