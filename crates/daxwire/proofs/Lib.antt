@@ -1,3 +1,4 @@
 pub mod ReadForms
 pub mod RingRuns
+pub mod ServedChains
 pub mod ServingChains

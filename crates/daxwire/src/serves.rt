@@ -1,4 +1,5 @@
-ghost use Rattle.std.specs.Prelude.{◌≡◌, ◌≤◌, ◌++◌, ◌∷◌, [], length, IfOk, OnOk};
+ghost use Rattle.std.specs.Prelude.{◌≡◌, ◌≤◌, ◌<◌, ◌+◌, ◌-◌, ◌^◌, ◌++◌, length, take, drop, OnOk};
+ghost use Rattle.std.specs.Int.{w32, to_le_bytes};
 ghost use Rattle.plain_file.specs.Limits.{max_part, max_transfer};
 ghost use Rattle.fuse_device.specs.Steps.{device_step};
 ghost use Rattle.chain_stream.specs.Frames.{lead_len, IsBounded};
@@ -14,12 +15,11 @@ use window_access::WindowRefusal;
 #[derive(Debug, Drop)]
 pub struct Serve {
     device: Device,
-    // The last reply to a chain, whose room is used again.
-    reply: Vec<u8>,
 }
 
 impl Serve {
-    // Adds the answer to a chain.
+    // Adds the answer to a chain. Its bytes come to their place at once, and their count before them last.
+    #[tactic(auto, using(crate::proofs::ServedChains::chain_in_place))]
     fn put_chain(
         &mut self,
         alloc: Global,
@@ -30,13 +30,10 @@ impl Serve {
         requires { length readable.now ≤ max_part }
         ensures { OnOk result (Makes (chain_output (device_step self.old.device readable.now room)) out.old.items self.new.device out.new.items) }
     {
-        self.reply.clear();
-        self.device
-            .reply_into(alloc, readable, room, &mut self.reply)?;
-        let reply = self.reply.as_slice();
-        out.push(1)?;
-        out.extend_from_slice(&(reply.len() as u32).to_le_bytes())?;
-        out.extend_from_slice(reply)?;
+        let at = out.len();
+        out.extend_from_slice(&[1, 0, 0, 0, 0])?;
+        self.device.reply_into(alloc, readable, room, out)?;
+        put_len(out, at + 1);
         Ok(())
     }
 
@@ -122,6 +119,16 @@ impl Serve {
     }
 }
 
+// Writes into four bytes how many bytes stand behind them.
+fn put_len(out: &mut Vec<u8>, at: usize)
+    requires within { at + 4 ≤ length out.old.items }
+    requires small { length out.old.items < at + 4 + 2 ^ 32 }
+    ensures { out.new.items ≡ take at out.old.items ++ to_le_bytes w32 (length out.old.items - (at + 4)) ++ drop (at + 4) out.old.items }
+{
+    let len = (out.len() - (at + 4)) as u32;
+    out[at..at + 4].copy_from_slice(&len.to_le_bytes());
+}
+
 // The number of a refusal.
 #[tactic(auto, unfolding(crate::specs::Serve::refusal_number))]
 fn number_of(refusal: WindowRefusal) -> u8
@@ -148,7 +155,6 @@ impl Responder for Serve {
     fn start(alloc: Global, pages: u32) -> Result<Serve, Memory> {
         Ok(Serve {
             device: Device::new(alloc, pages)?,
-            reply: Vec::new(alloc),
         })
     }
 
