@@ -29,7 +29,7 @@ CanStep-same s files map readable same e can = subst (CanStep s files map) (sym 
 -- a queue and its device are what an honest wire to the whole daemon is ..
 pub Carries-Honest : (w : WireView) (old : Host) (sent : Sent) (result : Result (List ℕ) WireError) (new : Host) → w.stays ≡ false → Carries old sent result new → Honest w old.world sent result new.world
 Carries-Honest w old sent (Ok bytes) new whole h = carried_by_step w old.world sent bytes new.world whole h.step
-Carries-Honest w old sent (Err errors.Memory) new whole (inl same) = inl (ap (λ (h : Host). h.world) same)
+Carries-Honest w old sent (Err errors.Memory) new whole (inl h) = inl (ap (λ (x : Host). x.world) h.same)
 Carries-Honest w old sent (Err errors.Memory) new whole (inr (inl h)) = inl h.world
 Carries-Honest w old sent (Err errors.Memory) new whole (inr (inr h)) = inr (inr (_, carried_by_step w old.world sent _ new.world whole h.step))
 Carries-Honest w old sent (Err errors.Fault) new whole h = absurd h
@@ -52,7 +52,7 @@ unchanged old new same =
 pub Carries-KeepsBoards : (old : Host) (sent : Sent) (result : Result (List ℕ) WireError) (new : Host) → CanStep old.world.state old.world.files old.world.map sent.bytes → Carries old sent result new
     → KeepsBoards (boards old.world.files old.world.map) (boards new.world.files new.world.map)
 Carries-KeepsBoards old sent (Ok bytes) new can h = stepped old.world sent bytes new.world can h.step
-Carries-KeepsBoards old sent (Err errors.Memory) new can (inl same) = unchanged old new (ap (λ (h : Host). h.world) same)
+Carries-KeepsBoards old sent (Err errors.Memory) new can (inl h) = unchanged old new (ap (λ (x : Host). x.world) h.same)
 Carries-KeepsBoards old sent (Err errors.Memory) new can (inr (inl h)) = unchanged old new h.world
 Carries-KeepsBoards old sent (Err errors.Memory) new can (inr (inr h)) = stepped old.world sent _ new.world can h.step
 Carries-KeepsBoards old sent (Err errors.Fault) new can h = absurd h

@@ -1,4 +1,4 @@
-ghost use Rattle.std.specs.Prelude.{◌≡◌, ◌≤◌, ℕ, length, IfOk, OnOk, OnErr};
+ghost use Rattle.std.specs.Prelude.{◌≡◌, ◌≤◌, ℕ, false, length, IfOk, OnOk, OnErr};
 ghost use Rattle.plain_file.specs.Limits.{max_part};
 ghost use Rattle.vring.specs.Chain.{ChainLiesIn};
 ghost use Rattle.vring.specs.Driver.{IsQueueSize, driver_layout, part_room, offered_room};
@@ -108,6 +108,7 @@ impl Sides {
         ensures len { OnOk result (len ≤ part_room self.new.driver.size) }
         ensures room { OnOk result (room ≤ part_room self.new.driver.size) }
         ensures err { OnErr result (self.new ≡ self.old) }
+        ensures small { OnErr result (takes self.old.driver.size len room ≡ false) }
         ensures idle { IsIdle self.new }
     {
         if takes(self.driver.size(), len, room) {
