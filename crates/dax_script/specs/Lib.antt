@@ -2,3 +2,9 @@ pub mod Causes
 pub mod Calls
 pub mod Memory
 pub mod Statuses
+pub mod Asks
+pub mod Steps
+pub mod ScriptWords
+pub mod ScriptText
+pub mod ScriptPrinted
+pub mod Fits

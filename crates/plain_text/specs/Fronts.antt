@@ -1,0 +1,7 @@
+-- What stood in a buffer before a call still stands at its front.
+use Rattle.std.specs.Prelude.{◌≡◌, ℕ, List, ◌++◌}
+
+-- the new bytes begin with the old ones
+pub record Begins (old new : List ℕ) : Type 0 where
+  pub more : List ℕ
+  pub is : new ≡ old ++ more

@@ -1,0 +1,5 @@
+pub mod Finds
+pub mod Growing
+pub mod Apart
+pub mod Agreeing
+pub mod Rooms

@@ -1,0 +1,19 @@
+-- What an entry of a placement log places, as seen from later on, and where a log is unsound first.
+use Rattle.std.specs.Prelude.{ℕ, ◌+◌, ◌||◌, ◌&&◌, Bool, not, List, [], ◌∷◌, slice_get, Option, Some, None, if◌then◌else◌}
+use Rattle.page_map.specs.declared.ranges.LogEntry.{LogEntry}
+use Rattle.page_map.specs.Logs.{Slot, live, writable, places, may_follow, next_slots}
+
+-- Entry k of the log places this chunk, and that is live when the log has m entries. To be written it is also
+-- writable there.
+unfoldable pub is_live : Bool → List LogEntry → ℕ → ℕ → ℕ → Bool
+is_live write log chunk k m = places chunk (slice_get log k) && live log k m && (not write || writable log k m)
+
+-- The place of the first entry that may not follow those before it, counted from n, where these slots are placed at
+-- first.
+unfoldable pub first_unsound : ℕ → ℕ → List Slot → List LogEntry → Option ℕ
+first_unsound ranges n slots [] = None
+first_unsound ranges n slots (e ∷ es) = if may_follow ranges slots e then first_unsound ranges (n + 1) (next_slots n slots e) es else Some n
+
+-- the same of a whole log; there is none exactly where the log is sound
+abbrev pub unsound_at : ℕ → List LogEntry → Option ℕ
+unsound_at ranges log = first_unsound ranges 0 [] log
