@@ -1,12 +1,11 @@
 -- What some texts are, by computation.
 use Rattle.std.proofs.Common.{◌≡◌, true, [], ◌∷◌, Ok, Err, codes, refl}
 use Rattle.std.specs.Prelude.{⊤}
-use Rattle.hex.proofs.OnLiterals.{hex_on_literals}
 use Rattle.page_map.specs.declared.pages.Mode.TheVariants as modes
 use Rattle.dax_script.specs.declared.scripts.Call.TheVariants as calls
 use Rattle.dax_script.specs.declared.whys.Why.TheVariants as whys
 use Rattle.plain_text.specs.Numbers.{number_of}
-use Rattle.plain_text.specs.Hexadecimal.{hex_of}
+use Rattle.plain_text.specs.Hexadecimal.{hex_pairs, hex_of, hex_byte_of}
 use Rattle.page_map.specs.Logs.{is_writable}
 use Rattle.dax_script.specs.declared.scripts.Script.{Script}
 use Rattle.dax_script.specs.Asks.{is_hold}
@@ -16,7 +15,7 @@ use Rattle.dax_script.specs.ScriptWords.{number, between, in_file, in_chunk, ran
 use Rattle.dax_script.specs.ScriptText.{read_call, write_call, fill_call, size_call, truncate_call, hold_call, load_call, store_call, release_call, call_of, moved_by, call_line, ranges_line, background_line, zeros_line, filled_line, file_line, guest_line, later_line, worded_line, worded, line_read, finished, script_of}
 
 unfoldable pub scripts_on_literals : ⊤
-unfolding hex_on_literals number_of hex_of is_writable is_hold none one two three four number between in_file in_chunk ranges_number new_name file_named byte hex mode held_mode hold writing_hold read_call write_call fill_call size_call truncate_call hold_call load_call store_call release_call call_of moved_by call_line ranges_line background_line zeros_line filled_line file_line guest_line later_line worded_line worded line_read finished script_of
+unfolding number_of hex_pairs hex_of hex_byte_of is_writable is_hold none one two three four number between in_file in_chunk ranges_number new_name file_named byte hex mode held_mode hold writing_hold read_call write_call fill_call size_call truncate_call hold_call load_call store_call release_call call_of moved_by call_line ranges_line background_line zeros_line filled_line file_line guest_line later_line worded_line worded line_read finished script_of
 scripts_on_literals = tt
 
 one_range : script_of (codes "ranges 1") ≡ Err (record { line = 1; why = whys.Limit })

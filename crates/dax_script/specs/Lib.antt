@@ -6,5 +6,6 @@ pub mod Asks
 pub mod Steps
 pub mod ScriptWords
 pub mod ScriptText
+pub mod Halts
 pub mod ScriptPrinted
 pub mod Fits

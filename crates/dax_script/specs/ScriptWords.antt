@@ -7,9 +7,8 @@ use Rattle.plain_file.specs.Limits.{max_transfer}
 use Rattle.page_map.specs.declared.pages.Mode.{Mode}
 use Rattle.page_map.specs.declared.pages.Mode.TheVariants as modes
 use Rattle.page_map.specs.Logs.{is_writable}
-use Rattle.plain_text.specs.Options.{◌>>=◌}
 use Rattle.plain_text.specs.Numbers.{number_of}
-use Rattle.plain_text.specs.Hexadecimal.{hex_of}
+use Rattle.plain_text.specs.Hexadecimal.{hex_of, hex_byte_of}
 use Rattle.dax_script.specs.declared.scripts.Call.{Call}
 use Rattle.dax_script.specs.declared.scripts.Call.TheVariants as calls
 use Rattle.dax_script.specs.declared.scripts.FileLine.{FileLine}
@@ -68,12 +67,8 @@ file_named files word = or_why whys.File (position_from (is_called word) 0 files
 
 -- ---- bytes and modes
 
-abbrev pub only_byte : List ℕ → Option ℕ
-only_byte (b ∷ []) = Some b
-only_byte bytes = None
-
 unfoldable pub byte : List ℕ → Result ℕ Why
-byte word = or_why whys.Byte (hex_of word >>= only_byte)
+byte word = or_why whys.Byte (hex_byte_of word)
 
 -- the bytes of a call, no more than it may move
 unfoldable pub hex : List ℕ → Result (List ℕ) Why

@@ -14,7 +14,10 @@
 #![tactic(auto)]
 
 mod asks;
+mod call_reads;
 mod calls;
+mod counted_words;
+mod halts;
 mod memory;
 mod reads;
 mod scripts;
@@ -25,6 +28,7 @@ mod sure;
 mod tests;
 mod traits;
 mod whys;
+mod word_reads;
 mod words;
 mod writes;
 

@@ -1,5 +1,5 @@
 -- The words that are printed have no space and no line end, and are read as what they say.
-use Rattle.std.proofs.Common.{◌≡◌, ◌∙◌, ap, refl, ℕ, zero, suc, ◌+◌, ◌*◌, ◌-◌, ◌/◌, ◌%◌, ◌<◌, ◌≤◌, ◌^◌, ◌==◌, ◌&&◌, Bool, true, false, not, List, [], ◌∷◌, length, get_or, slice_index, nat_lt, Some, decimal, inl, inr, arith, tests}
+use Rattle.std.proofs.Common.{◌≡◌, ◌∙◌, ap, refl, ℕ, zero, suc, ◌+◌, ◌*◌, ◌-◌, ◌/◌, ◌%◌, ◌<◌, ◌≤◌, ◌^◌, ◌==◌, ◌&&◌, Bool, true, false, List, [], ◌∷◌, length, get_or, slice_index, nat_lt, Option, Some, None, decimal, inl, inr, arith, tests}
 use Rattle.std.proofs.lemmas.Grind.{common_steps}
 use Rattle.std.proofs.lemmas.Bool.{and_parts, cases_lt}
 use Rattle.std.specs.List.{AllByRecursion, list_all}
@@ -9,10 +9,9 @@ use Rattle.std.specs.Str.Parse.{digits_value_after, AllDigits}
 use Rattle.std.proofs.lemmas.Fmt.{decimal_is_IsNumeral, first_decimal, decimal_digit, length-decimal-le}
 use Rattle.std.proofs.lemmas.Str.{digit_value_digit}
 use Rattle.std.proofs.lemmas.Str.Parse.{digit_from_value}
-use Rattle.hex.specs.Hex.{encode_with, encode_lower, lower_digits, IsBytes}
-use Rattle.hex.proofs.HexLemmas.{decode_of-encode_lower}
+use Rattle.hex.specs.Hex.{encode_with, encode_lower, lower_digits}
 use Rattle.plain_text.specs.Numbers.{number_of, number_after, number_within}
-use Rattle.plain_text.specs.Hexadecimal.{is_lower_hex, hex_or, hex_of}
+use Rattle.plain_text.specs.Hexadecimal.{hex_digit, hex_pair, hex_pairs, hex_of, hex_byte_of}
 
 -- each byte is behind the space
 abbrev pub IsCleanWord : List ℕ → Type 0
@@ -102,29 +101,44 @@ all_below-at test (suc n) k h lt =
           rw e parts.0
     ]
 
-lower_digit : (d : ℕ) → d < 16 → is_lower_hex (slice_index lower_digits d) ≡ true
-lower_digit d h = all_below-at (λ k. is_lower_hex (slice_index lower_digits k)) 16 d refl h
+-- a digit of 0 to 15 is behind the space, and reads as itself
+lower_clean : (d : ℕ) → d < 16 → 32 < slice_index lower_digits d
+lower_clean d h = behind_space (slice_index lower_digits d) (all_below-at (λ k. nat_lt 32 (slice_index lower_digits k)) 16 d refl h)
 
-pub lower_text : (bytes : List ℕ) → AllByRecursion (λ b. b < 256) bytes → list_all is_lower_hex (encode_lower bytes) ≡ true
-unfolding encode_with
-lower_text [] h = refl
-lower_text (b ∷ bytes) h = rw (lower_digit (b / 16) (omega (arith, h.0)), lower_digit (b % 16) (omega (arith, h.0)), lower_text bytes h.1) refl
+abbrev is_digit_of : ℕ → Option ℕ → Bool
+is_digit_of d None = false
+is_digit_of d (Some v) = v == d
 
-lower_byte : (b : ℕ) → is_lower_hex b ≡ true → 32 < b
-lower_byte b e = grind (arith, tests)
+digit_of : (d : ℕ) (o : Option ℕ) → is_digit_of d o ≡ true → o ≡ Some d
+digit_of d None e = grind arith
+digit_of d (Some v) e = let same : v ≡ d = grind arith in ap Some same
+
+hex_digit-lower : (d : ℕ) → d < 16 → hex_digit (slice_index lower_digits d) ≡ Some d
+hex_digit-lower d h = digit_of d (hex_digit (slice_index lower_digits d)) (all_below-at (λ k. is_digit_of k (hex_digit (slice_index lower_digits k))) 16 d refl h)
+
+hex_pair-lower : (b : ℕ) → b < 256 → hex_pair (slice_index lower_digits (b / 16)) (slice_index lower_digits (b % 16)) ≡ Some b
+hex_pair-lower b h =
+    let same : b / 16 * 16 + b % 16 ≡ b = omega arith in
+    rw (hex_digit-lower (b / 16) (omega (arith, h)), hex_digit-lower (b % 16) (omega arith)) (ap Some same)
 
 pub clean_hex : (bytes : List ℕ) → AllByRecursion (λ b. b < 256) bytes → IsCleanWord (encode_lower bytes)
-clean_hex bytes h = clean_from_test is_lower_hex lower_byte (encode_lower bytes) (lower_text bytes h)
+unfolding encode_with
+clean_hex [] h = tt
+clean_hex (b ∷ bytes) h = (lower_clean (b / 16) (omega (arith, h.0)), (lower_clean (b % 16) (omega arith), clean_hex bytes h.1))
 
-is_bytes : (bytes : List ℕ) → AllByRecursion (λ b. b < 256) bytes → IsBytes bytes
-is_bytes [] h k = omega arith
-is_bytes (b ∷ bytes) h zero = h.0
-is_bytes (b ∷ bytes) h (suc k) = is_bytes bytes h.1 k
+pub hex_pairs-encode_lower : (bytes : List ℕ) → AllByRecursion (λ x. x < 256) bytes → hex_pairs (encode_lower bytes) ≡ Some bytes
+unfolding encode_with hex_pairs
+hex_pairs-encode_lower [] h = refl
+hex_pairs-encode_lower (b ∷ bytes) h = rw (hex_pair-lower b h.0, hex_pairs-encode_lower bytes h.1) refl
 
-some_digits : (b : ℕ) (bytes : List ℕ) → not (length (encode_lower (b ∷ bytes)) == 0) ≡ true
+some_digits : (b : ℕ) (bytes : List ℕ) → (length (encode_lower (b ∷ bytes)) == 0) ≡ false
 unfolding encode_with
 some_digits b bytes = grind arith
 
 pub hex_of-encode_lower : (b : ℕ) (bytes : List ℕ) → AllByRecursion (λ x. x < 256) (b ∷ bytes) → hex_of (encode_lower (b ∷ bytes)) ≡ Some (b ∷ bytes)
 unfolding hex_of
-hex_of-encode_lower b bytes h = rw (some_digits b bytes, lower_text (b ∷ bytes) h) (ap hex_or (decode_of-encode_lower (b ∷ bytes) (is_bytes (b ∷ bytes) h)))
+hex_of-encode_lower b bytes h = rw (some_digits b bytes) (hex_pairs-encode_lower (b ∷ bytes) h)
+
+pub hex_byte_of-encode_lower : (b : ℕ) → b < 256 → hex_byte_of (encode_lower (b ∷ [])) ≡ Some b
+unfolding hex_byte_of encode_with
+hex_byte_of-encode_lower b h = hex_pair-lower b h

@@ -2,3 +2,4 @@ pub mod Parts
 pub mod Numerals
 pub mod CleanWords
 pub mod PrintedLines
+pub mod HexPairs

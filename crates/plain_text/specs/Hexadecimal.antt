@@ -1,16 +1,29 @@
 -- The bytes that a word writes in hexadecimal.
-use Rattle.std.specs.Prelude.{ℕ, ◌==◌, ◌&&◌, ◌||◌, Bool, not, nat_le, List, length, Option, Some, None, Result, Ok, Err, if◌then◌else◌}
-use Rattle.std.specs.List.{list_all}
-use Rattle.hex.specs.Hex.{decode_of}
-use Rattle.hex.specs.declared.FromHexError.{FromHexError}
+use Rattle.std.specs.Prelude.{ℕ, ◌+◌, ◌-◌, ◌*◌, ◌==◌, ◌&&◌, nat_le, List, [], ◌∷◌, length, Option, Some, None, if◌then◌else◌}
+use Rattle.plain_text.specs.Options.{◌>>=◌}
 
-abbrev pub is_lower_hex : ℕ → Bool
-is_lower_hex b = (nat_le 48 b && nat_le b 57) || (nat_le 97 b && nat_le b 102)
+-- the value of a digit: `0` to `9` are 48 to 57, and `a` to `f` are 97 to 102
+abbrev pub hex_digit : ℕ → Option ℕ
+hex_digit c =
+    if nat_le 48 c && nat_le c 57 then Some (c - 48)
+    else if nat_le 97 c && nat_le c 102 then Some (c - 87)
+    else None
 
-abbrev pub hex_or : Result (List ℕ) FromHexError → Option (List ℕ)
-hex_or (Ok bytes) = Some bytes
-hex_or (Err e) = None
+-- the byte of two digits
+abbrev pub hex_pair : ℕ → ℕ → Option ℕ
+hex_pair high low = hex_digit high >>= λ h. hex_digit low >>= λ l. Some (h * 16 + l)
+
+-- the bytes of digits, two a byte
+unfoldable pub hex_pairs : List ℕ → Option (List ℕ)
+hex_pairs [] = Some []
+hex_pairs (high ∷ []) = None
+hex_pairs (high ∷ low ∷ rest) = hex_pair high low >>= λ b. hex_pairs rest >>= λ bytes. Some (b ∷ bytes)
 
 -- the bytes that a positive even number of lower case hexadecimal digits writes
 unfoldable pub hex_of : List ℕ → Option (List ℕ)
-hex_of word = if not (length word == 0) && list_all is_lower_hex word then hex_or (decode_of word) else None
+hex_of word = if length word == 0 then None else hex_pairs word
+
+-- the byte that a word of two digits writes
+unfoldable pub hex_byte_of : List ℕ → Option ℕ
+hex_byte_of (high ∷ low ∷ []) = hex_pair high low
+hex_byte_of word = None

@@ -1,6 +1,5 @@
-ghost use Rattle.std.specs.Prelude.{◌≡◌, IfOk};
-ghost use Rattle.std.specs.List.{list_all};
-ghost use Rattle.plain_text.specs.Hexadecimal.{is_lower_hex, hex_of};
+ghost use Rattle.std.specs.Prelude.{◌≡◌, ◌<◌, IfOk, IfSome};
+ghost use Rattle.plain_text.specs.Hexadecimal.{hex_digit, hex_pair, hex_pairs, hex_of, hex_byte_of};
 
 use plain_file::{Blob, Memory};
 use std::alloc::Global;
@@ -11,24 +10,59 @@ use std::alloc::Global;
 pub fn hex_bytes(alloc: Global, word: &[u8]) -> Result<Option<Blob>, Memory>
     ensures { IfOk result (λ o. o ≡ hex_of word.now) }
 {
-    if word.is_empty() || !is_lower_hex_text(word) {
+    if word.is_empty() {
         return Ok(None);
     }
-    match hex::decode(alloc, word) {
-        Ok(bytes) => Ok(Some(Blob::from_vec(bytes))),
-        Err(hex::FromHexError::OutOfMemory) => Err(Memory),
-        Err(_) => Ok(None),
+    pairs(alloc, word)
+}
+
+#[tactic(auto, using(crate::proofs::HexPairs::hex_steps), unfolding(crate::specs::Hexadecimal::hex_pairs))]
+fn pairs(alloc: Global, word: &[u8]) -> Result<Option<Blob>, Memory>
+    ensures { IfOk result (λ o. o ≡ hex_pairs word.now) }
+{
+    let mut bytes = Vec::with_capacity(alloc, word.len() / 2)?;
+    let mut rest = word;
+    while rest.len() >= 2 {
+        let Some(byte) = pair(rest[0], rest[1]) else {
+            return Ok(None);
+        };
+        bytes.push(byte)?;
+        rest = rest.split_at(2).1;
+    }
+    if !rest.is_empty() {
+        return Ok(None);
+    }
+    Ok(Some(Blob::from_vec(bytes)))
+}
+
+/// The byte that a word of two lower case hexadecimal digits writes; None for another word.
+#[tactic(auto, unfolding(crate::specs::Hexadecimal::hex_byte_of))]
+pub fn hex_byte(word: &[u8]) -> Option<u8>
+    ensures { result ≡ hex_byte_of word.now }
+{
+    match word {
+        [high, low] => pair(*high, *low),
+        _ => None,
     }
 }
 
-fn is_lower_hex_text(word: &[u8]) -> bool
-    ensures { result ≡ list_all is_lower_hex word.now }
+fn pair(high: u8, low: u8) -> Option<u8>
+    ensures { result ≡ hex_pair high low }
 {
-    word.iter().all(|b| is_lower_hex_digit(*b))
+    let high = digit(high)?;
+    let low = digit(low)?;
+    Some(high * 16 + low)
 }
 
-fn is_lower_hex_digit(b: u8) -> bool
-    ensures { result ≡ is_lower_hex b }
+fn digit(c: u8) -> Option<u8>
+    ensures value { result ≡ hex_digit c }
+    ensures most { IfSome result (λ v. v < 16) }
 {
-    b'0' <= b && b <= b'9' || b'a' <= b && b <= b'f'
+    if b'0' <= c && c <= b'9' {
+        Some(c - b'0')
+    } else if b'a' <= c && c <= b'f' {
+        Some(c - b'a' + 10)
+    } else {
+        None
+    }
 }

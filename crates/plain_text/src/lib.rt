@@ -14,6 +14,6 @@ mod numbers;
 mod puts;
 
 pub use cuts::{cut, next_word};
-pub use hexadecimal::hex_bytes;
+pub use hexadecimal::{hex_byte, hex_bytes};
 pub use numbers::{number, number_up_to};
 pub use puts::{put, put_hex, put_number, put_signed};
