@@ -21,6 +21,8 @@ use Rattle.dax_audit.specs.declared.transcripts.Numbered.{Numbered}
 use Rattle.dax_audit.specs.declared.transcripts.Transcript.{Transcript}
 use Rattle.dax_audit.specs.Items.{Item, Head, Ranges, File, Entry, Log, Guest, Call as call_item, End, items}
 use Rattle.dax_audit.specs.Rules.{lines_of, line_at, entry_at, is_file_line, is_line_of_file, breaks_files, lacks_lines, breaks_guests, is_place, breaks_logs, breaks_call, breaks_entry, breaks_forms, breaks_entries, breaks_order, breaks_replies, breaks_ways, breaks_tales, fits_at, has_entry_at, rises_at, replies_right, tells_at, is_named, came_right}
+use Rattle.plain_file.specs.File.{max_file}
+use Rattle.dax_audit.specs.Tables.{AreNamed, HaveEntries}
 use Rattle.dax_audit.specs.Legal.{Rule, the_rules, Fault, fault_or, first_fault, fault, file_line, IsLegal}
 use Rattle.dax_audit.proofs.Lines.{Passes, passes, none_broken, EachLine, each_line, line_each, at_line, line_there, at_entry, entry_there}
 
@@ -380,3 +382,18 @@ legal s t h =
 
 pub legal_exactly : (s : Script) (t : Transcript) → IsLegal s t ↔ (fault s t ≡ None)
 legal_exactly s t = (legal s t, no_fault s t)
+
+-- ---- what the audit learns on its way
+
+pub are_named : (s : Script) (t : Transcript) → None ≡ position_from (breaks_entries s t) 1 (items t) → AreNamed s t
+are_named s t h = record { each = entries_kept t (is_named s t) (each_of t _ _ (λ x k. (or_parts _ _ k).0) (kept t (breaks_entries s t) (sym h))) }
+
+pub have_entries : (s : Script) (t : Transcript) → None ≡ position_from (breaks_entries s t) 1 (items t) → HaveEntries s t
+have_entries s t h = record { each = calls_kept t (has_entry_at s t) (each_of t _ _ (λ x k. (or_parts _ _ k).1) (kept t (breaks_entries s t) (sym h))) }
+
+pub small_files : (s : Script) (t : Transcript) → None ≡ position_from (breaks_files s t) 1 (items t) → ((file : ℕ) (f : FileLine) → slice_get s.files file ≡ Some f → f.first.size ≤ max_file) →
+    (file : ℕ) (p : FilePart) → slice_get t.files file ≡ Some p → p.first.size ≤ max_file
+small_files s t h small file p at =
+    let same = (files_kept s t (kept t (breaks_files s t) (sym h))).1 in
+    let there : slice_get s.files file ≡ Some (file_line p) = ap (λ (xs : List FileLine). slice_get xs file) (sym same) ∙ slice_get-map file_line t.files file ∙ ap (option_map file_line) at in
+    small file (file_line p) there

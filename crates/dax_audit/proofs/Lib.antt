@@ -5,3 +5,10 @@ pub mod Places
 pub mod Counted
 pub mod Lines
 pub mod Exactly
+pub mod Singles
+pub mod Tabled
+pub mod Looked
+pub mod Replayed
+pub mod Wayed
+pub mod Taled
+pub mod Audited

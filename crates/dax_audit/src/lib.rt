@@ -7,9 +7,22 @@
 //! and else which line is the first bad one).
 #![tactic(auto)]
 
+mod answers;
+mod audits;
 mod laws;
+mod line_rules;
+mod looks;
+mod part_rules;
+mod picks;
+mod replays;
+mod rules;
+mod tales;
+mod tests_of;
 mod transcripts;
+mod walks;
+mod ways;
 
+pub use audits::audit;
 pub use laws::{items_are_lines, legal_without_fault, text_determines_transcript};
 pub use transcripts::{
     BadTranscript, EntryLine, FilePart, Grant, GuestPart, Line, Numbered, Transcript, Verdict,

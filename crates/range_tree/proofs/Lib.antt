@@ -3,3 +3,4 @@ pub mod Growing
 pub mod Apart
 pub mod Agreeing
 pub mod Rooms
+pub mod Live

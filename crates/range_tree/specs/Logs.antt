@@ -1,7 +1,12 @@
 -- What an entry of a placement log places, as seen from later on, and where a log is unsound first.
 use Rattle.std.specs.Prelude.{ℕ, ◌+◌, ◌||◌, ◌&&◌, Bool, not, List, [], ◌∷◌, slice_get, Option, Some, None, if◌then◌else◌}
 use Rattle.page_map.specs.declared.ranges.LogEntry.{LogEntry}
-use Rattle.page_map.specs.Logs.{Slot, live, writable, places, may_follow, next_slots}
+use Rattle.page_map.specs.Logs.{Slot, live, writable, places, stays, is_written, may_follow, next_slots}
+
+-- The entry places this chunk, and none of the later ones removes its range. To be written it was placed so, or one of
+-- them upgrades its range.
+abbrev pub lasts : Bool → LogEntry → ℕ → List LogEntry → Bool
+lasts write e chunk later = places chunk (Some e) && stays (Some e) later && (not write || is_written (Some e) later)
 
 -- Entry k of the log places this chunk, and that is live when the log has m entries. To be written it is also
 -- writable there.

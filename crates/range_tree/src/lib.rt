@@ -8,12 +8,14 @@
 //! This is the bookkeeping of the interval tree of a DAX inode in Linux `fs/fuse/dax.c`.
 #![tactic(auto)]
 
+mod liveness;
 mod slots;
 #[cfg(test)]
 mod tests;
 mod trees;
 mod unsound;
 
+pub use liveness::is_live;
 pub use page_map::{LogEntry, Look, Placed, RangeWord, Target};
 pub use trees::Tree;
 pub use unsound::first_unsound;

@@ -1,0 +1,11 @@
+use Rattle.std.proofs.Common.{◌∙◌, sym, rules, ◌≡◌, ℕ, ◌+◌, ◌-◌, ◌*◌, ◌<◌, ◌≤◌, length, ◌/◌, ◌%◌, Bool, true, false, nat_eq, nat_lt, List, [], ◌∷◌, ◌++◌, slice_index_or, slice_set, bit_and, bit_or, Fits, w8, w32, w64, Bor, MutBor}
+use Rattle.std.specs.List.{list_any}
+use Rattle.page_map.specs.Logs.{removes, upgrades}
+use Rattle.range_tree.specs.Logs.{lasts, is_live}
+use Rattle.range_tree.proofs.Live.{live_lasts}
+use Rattle.range_tree.proofs.liveness.is_live.Goals as goal
+
+-- src/liveness.rt:63:1
+pub returns : goal.returns
+returns c = (rw (c.split_at-2.ensures.back, c.split_at.ensures.front) at c.lasts.ensures)
+    ∙ sym (live_lasts c.args.write c.args.log.now c.args.chunk c.args.entry c.args.upto _ c.if-entry-upto.false c.if-upto-log.false)
