@@ -12,10 +12,10 @@ use Rattle.dax_script.specs.Asks.{is_hold}
 use Rattle.dax_script.specs.Fits.{call_fits, fits}
 use Rattle.dax_script.specs.Steps.{none, one, two, three, four}
 use Rattle.dax_script.specs.ScriptWords.{number, between, in_file, in_chunk, ranges_number, new_name, file_named, byte, hex, mode, held_mode, hold, writing_hold}
-use Rattle.dax_script.specs.ScriptText.{read_call, write_call, fill_call, size_call, truncate_call, hold_call, load_call, store_call, release_call, call_of, moved_by, call_line, ranges_line, background_line, zeros_line, filled_line, file_line, guest_line, later_line, worded_line, worded, line_read, finished, script_of}
+use Rattle.dax_script.specs.ScriptText.{read_call, write_call, fill_call, size_call, truncate_call, hold_call, load_call, store_call, release_call, call_of, moved_by, call_added, call_line, ranges_line, background_line, zeros_file, filled_file, file_of_words, file_line, guest_line, later_line, worded_line, worded, line_read, finished, script_of}
 
 unfoldable pub scripts_on_literals : ⊤
-unfolding number_of hex_pairs hex_of hex_byte_of is_writable is_hold none one two three four number between in_file in_chunk ranges_number new_name file_named byte hex mode held_mode hold writing_hold read_call write_call fill_call size_call truncate_call hold_call load_call store_call release_call call_of moved_by call_line ranges_line background_line zeros_line filled_line file_line guest_line later_line worded_line worded line_read finished script_of
+unfolding number_of hex_pairs hex_of hex_byte_of is_writable is_hold none one two three four number between in_file in_chunk ranges_number new_name file_named byte hex mode held_mode hold writing_hold read_call write_call fill_call size_call truncate_call hold_call load_call store_call release_call call_of moved_by call_added call_line ranges_line background_line zeros_file filled_file file_of_words file_line guest_line later_line worded_line worded line_read finished script_of
 scripts_on_literals = tt
 
 one_range : script_of (codes "ranges 1") ≡ Err (record { line = 1; why = whys.Limit })

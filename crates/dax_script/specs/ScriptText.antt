@@ -1,6 +1,6 @@
 -- What text is a script, line by line, and else which line is the first bad one, with its first reason.
-use Rattle.std.specs.Prelude.{ℕ, ◌+◌, ◌==◌, ◌&&◌, ◌||◌, Bool, false, not, nat_lt, nat_le, List, [], ◌∷◌, ◌++◌, length, map, codes, Option, Some, None, is_none, unwrap_or, Result, Ok, Err, if◌then◌else◌}
-use Rattle.std.specs.List.{sum}
+use Rattle.std.specs.Prelude.{ℕ, ◌+◌, ◌==◌, ◌&&◌, ◌||◌, Bool, false, not, nat_lt, nat_le, List, [], ◌∷◌, ◌++◌, length, codes, Option, Some, None, is_none, unwrap_or, Result, Ok, Err, if◌then◌else◌}
+use Rattle.std.specs.List.{sum_by}
 use Rattle.std.specs.Str.{bytes_eq}
 use Rattle.plain_file.specs.File.{max_file}
 use Rattle.plain_file.specs.Limits.{max_files}
@@ -109,7 +109,7 @@ moved_by (calls.Store h off bytes) = length bytes
 moved_by (calls.Release h) = 0
 
 abbrev pub moved : List Call → ℕ
-moved cs = sum (map moved_by cs)
+moved cs = sum_by moved_by cs
 
 abbrev pub max_calls : ℕ
 max_calls = 65536
@@ -119,19 +119,21 @@ max_moved = 67108864
 
 -- the calls of all guests are few enough, and move few enough bytes
 abbrev pub are_few : List (List Call) → Bool
-are_few gs = nat_le (sum (map length gs)) max_calls && nat_le (sum (map moved gs)) max_moved
+are_few gs = nat_le (sum_by length gs) max_calls && nat_le (sum_by moved gs) max_moved
 
 -- a call needs no window, or there is one
 abbrev pub has_window : ℕ → Call → Bool
 has_window ranges c = not (is_hold c && ranges == 0)
 
--- a call more of the guest at hand
+-- a call more of the guest at hand, whose calls so far these are
+unfoldable pub call_added : Draft → ℕ → List Call → Call → Result Draft Why
+call_added d ranges cs c =
+    where_holds (are_few (guests_with d.done (Some (cs ++ c ∷ [])))) whys.Limit c then λ k.
+    where_holds (has_window ranges k) whys.Window (record d { calls = Some (cs ++ k ∷ []) })
+
 unfoldable pub call_line : Draft → ℕ → Option (List Call) → List ℕ → List (List ℕ) → Result Draft Why
 call_line d ranges None verb words = Err whys.Order
-call_line d ranges (Some cs) verb words =
-    call_of d.files (hold_modes cs) verb words then λ c.
-    where_holds (are_few (d.done ++ (cs ++ c ∷ []) ∷ [])) whys.Limit c then λ c.
-    where_holds (has_window ranges c) whys.Window (record d { calls = Some (cs ++ c ∷ []) })
+call_line d ranges (Some cs) verb words = call_of d.files (hold_modes cs) verb words then λ c. call_added d ranges cs c
 
 -- ---- the other lines
 
@@ -150,16 +152,20 @@ abbrev pub file_of : List ℕ → ℕ → ℕ → FileLine
 file_of name size fill = record { name = name; first = record { size = size; fill = fill } }
 
 -- a file of zeros, and one of another byte
-unfoldable pub zeros_line : List FileLine → List (List ℕ) → Result FileLine Why
-zeros_line files words = two words then λ w. new_name files w.0 then λ name. between 0 max_file w.1 then λ size. Ok (file_of name size 0)
+unfoldable pub zeros_file : List FileLine → List (List ℕ) → Result FileLine Why
+zeros_file files words = two words then λ w. new_name files w.0 then λ name. between 0 max_file w.1 then λ size. Ok (file_of name size 0)
 
-unfoldable pub filled_line : List FileLine → List (List ℕ) → Result FileLine Why
-filled_line files words =
-    three words then λ w. new_name files w.0 then λ name. between 0 max_file w.1 then λ size. byte w.2 then λ fill. Ok (file_of name size fill)
+unfoldable pub filled_file : List FileLine → List ℕ × List ℕ × List ℕ → Result FileLine Why
+filled_file files w = new_name files w.0 then λ name. between 0 max_file w.1 then λ size. byte w.2 then λ fill. Ok (file_of name size fill)
+
+-- three words behind the first one, or else two
+unfoldable pub file_of_words : List FileLine → List (List ℕ) → Result (List ℕ × List ℕ × List ℕ) Why → Result FileLine Why
+file_of_words files words (Ok w) = filled_file files w
+file_of_words files words (Err why) = zeros_file files words
 
 unfoldable pub file_line : Draft → List (List ℕ) → Result Draft Why
 file_line d words =
-    (if length words == 3 then filled_line d.files words else zeros_line d.files words) then λ f.
+    file_of_words d.files words (three words) then λ f.
     where_holds (nat_lt (length d.files) max_files) whys.Limit (record d { files = d.files ++ f ∷ [] })
 
 abbrev pub max_guests : ℕ

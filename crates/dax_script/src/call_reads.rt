@@ -9,7 +9,9 @@ use crate::counted_words::{four, one, three, two};
 use crate::halts::Halt;
 use crate::scripts::{Call, FileLine};
 use crate::whys::Why;
-use crate::word_reads::{between, byte, file_named, hex, hold, in_chunk, in_file, mode, moves, number, writing_hold};
+use crate::word_reads::{
+    between, byte, file_named, hex, hold, in_chunk, in_file, mode, moves, number, writing_hold,
+};
 use page_map::Mode;
 use plain_file::MAX_FILE;
 use std::alloc::Global;
@@ -102,7 +104,7 @@ fn hold_call(files: &[FileLine], held: &[Mode], line: &[u8]) -> Result<Call, Hal
 
 #[tactic(auto, unfolding(crate::specs::ScriptText::load_call))]
 fn load_call(held: &[Mode], line: &[u8]) -> Result<Call, Halt>
-    requires { length held.now ≤ 32 }
+    requires { length held.now < 2 ^ 32 }
     ensures { Gives result (load_call held.now (words_of line.now)) }
 {
     let (place, off, len) = three(line)?;
@@ -115,7 +117,7 @@ fn load_call(held: &[Mode], line: &[u8]) -> Result<Call, Halt>
 
 #[tactic(auto, unfolding(crate::specs::ScriptText::store_call))]
 fn store_call(alloc: Global, held: &[Mode], line: &[u8]) -> Result<Call, Halt>
-    requires { length held.now ≤ 32 }
+    requires { length held.now < 2 ^ 32 }
     ensures { Gives result (store_call held.now (words_of line.now)) }
 {
     let (place, off, bytes) = three(line)?;
@@ -128,7 +130,7 @@ fn store_call(alloc: Global, held: &[Mode], line: &[u8]) -> Result<Call, Halt>
 
 #[tactic(auto, unfolding(crate::specs::ScriptText::release_call))]
 fn release_call(held: &[Mode], line: &[u8]) -> Result<Call, Halt>
-    requires { length held.now ≤ 32 }
+    requires { length held.now < 2 ^ 32 }
     ensures { Gives result (release_call held.now (words_of line.now)) }
 {
     let place = one(line)?;
@@ -138,9 +140,15 @@ fn release_call(held: &[Mode], line: &[u8]) -> Result<Call, Halt>
 
 /// The call of a line, by its first word, the script's files and the modes of the guest's holds.
 #[tactic(auto, unfolding(crate::specs::ScriptText::call_of))]
-pub(crate) fn call_of(alloc: Global, files: &[FileLine], held: &[Mode], verb: &[u8], line: &[u8]) -> Result<Call, Halt>
+pub(crate) fn call_of(
+    alloc: Global,
+    files: &[FileLine],
+    held: &[Mode],
+    verb: &[u8],
+    line: &[u8],
+) -> Result<Call, Halt>
     requires few { length files.now < 2 ^ 32 }
-    requires holds { length held.now ≤ 32 }
+    requires holds { length held.now < 2 ^ 32 }
     ensures { Gives result (call_of files.now held.now verb.now (words_of line.now)) }
 {
     if verb == b"read".as_slice() {

@@ -19,6 +19,8 @@ mod calls;
 mod counted_words;
 mod halts;
 mod memory;
+mod parses;
+mod readings;
 mod reads;
 mod scripts;
 mod statuses;
@@ -34,6 +36,7 @@ mod writes;
 
 pub use asks::{Held, Target, held_by, hold_places, target_of};
 pub use memory::{MemSink, MemSource};
+pub use parses::parse;
 pub use reads::{ReadError, read_all};
 pub use scripts::{Call, FileLine, Script};
 pub use statuses::Status;

@@ -142,7 +142,7 @@ pub(crate) fn mode(word: &[u8]) -> Result<Mode, Why>
 
 #[tactic(auto, unfolding(crate::specs::ScriptWords::hold))]
 pub(crate) fn hold(held: &[Mode], word: &[u8]) -> Result<u32, Why>
-    requires { length held.now ≤ 32 }
+    requires { length held.now < 2 ^ 32 }
     ensures { result ≡ hold held.now word.now }
 {
     let n = number(word)?;
@@ -154,7 +154,7 @@ pub(crate) fn hold(held: &[Mode], word: &[u8]) -> Result<u32, Why>
 
 #[tactic(auto, unfolding(crate::specs::ScriptWords::writing_hold))]
 pub(crate) fn writing_hold(held: &[Mode], word: &[u8]) -> Result<u32, Why>
-    requires { length held.now ≤ 32 }
+    requires { length held.now < 2 ^ 32 }
     ensures { result ≡ writing_hold held.now word.now }
 {
     let n = number(word)?;
