@@ -1,31 +1,39 @@
 -- What the requests of a run make of a live wire, each of which succeeds.
-use Rattle.std.proofs.Common.{◌≡◌, ◌∙◌, ap, refl, subst, arith, ℕ, ◌+◌, ◌-◌, ◌≤◌, ◌^◌, true, false, List, length, take, drop, Option, Some, None, is_some, slice_set, Result, Ok, Err, if◌then◌else◌}
+use Rattle.std.proofs.Common.{◌≡◌, ◌∙◌, ap, refl, subst, arith, ℕ, ◌+◌, ◌-◌, ◌<◌, ◌≤◌, ◌^◌, Bool, true, false, List, length, take, drop, Option, Some, None, is_some, slice_set, Result, Ok, Err, if◌then◌else◌}
+use Rattle.std.proofs.lemmas.Grind.{common_steps}
 use Rattle.plain_file.specs.declared.operations.Op.TheVariants as ops
-use Rattle.plain_file.specs.File.{max_file}
+use Rattle.plain_file.specs.File.{max_file, answer}
 use Rattle.plain_file.specs.Limits.{max_transfer}
-use Rattle.plain_file.specs.Board.{file_at, bytes_now, size_of, with_note, applied}
-use Rattle.fuse_codec.specs.Replies.{form_of}
+use Rattle.plain_file.specs.Board.{file_at, bytes_now, size_of, with_note, applied, file_answer}
+use Rattle.fuse_codec.specs.Grammar.{kind_of}
+use Rattle.fuse_codec.specs.Opcodes.{reply_form}
+use Rattle.fuse_codec.specs.Replies.{form_of, reply_parts, is_reply}
 use Rattle.fuse_codec.specs.declared.messages.Request.TheVariants as asks
 use Rattle.fuse_codec.specs.declared.replies.Reply.{Reply}
 use Rattle.fuse_codec.specs.declared.replies.Reply.TheVariants as replies
+use Rattle.fuse_wire.specs.Layout.{FitsParts}
+use Rattle.fuse_wire.specs.Attributes.{attr_rec, attr_out}
+use Rattle.fuse_wire.specs.declared.attributes.AttrOut.{AttrOut}
 use Rattle.fuse_wire.specs.declared.attributes.EntryOut.{EntryOut}
+use Rattle.fuse_wire.specs.declared.attributes.GetattrIn.{GetattrIn}
 use Rattle.fuse_wire.specs.declared.inits.InitIn.{InitIn}
 use Rattle.fuse_wire.specs.declared.inits.InitOut.{InitOut}
 use Rattle.fuse_wire.specs.declared.opens.OpenOut.{OpenOut}
 use Rattle.fuse_wire.specs.declared.records.WriteOut.{WriteOut}
-use Rattle.fuse_device.specs.State.{World, is_made, named, begun, looked_up, with_open}
+use Rattle.fuse_device.specs.State.{World, is_made, made_at, named, begun, looked_up, with_open}
 use Rattle.fuse_device.specs.Checks.{is_known, may_open}
-use Rattle.fuse_device.specs.Requests.{seen_size}
-use Rattle.fuse_device.specs.Entries.{session_flags, init_out_with, entry_of, open_out_of}
-use Rattle.fuse_device.specs.OpenFiles.{HasOpenFile}
-use Rattle.fuse_device.proofs.OpenHandles.{is_file, init_succeeds, lookup_succeeds, open_succeeds, read_succeeds, write_succeeds}
+use Rattle.fuse_device.specs.Requests.{seen_size, answered, getattr, size_in, is_init, is_forget}
+use Rattle.fuse_device.specs.Entries.{session_flags, init_out_with, file_attr, attr_out_of, entry_of, open_out_of}
+use Rattle.fuse_device.specs.OpenFiles.{HasOpenFile, Succeeds}
+use Rattle.fuse_device.proofs.Allowed.{may_apply_size}
+use Rattle.fuse_device.proofs.OpenHandles.{is_file, is_known-open, init_succeeds, lookup_succeeds, open_succeeds, read_succeeds, write_succeeds}
 use Rattle.guest_wire.specs.declared.driver.FileRef.{FileRef}
 use Rattle.guest_wire.specs.Keeps.{KeepsBoards}
 use Rattle.guest_wire.specs.declared.wires.WireError.{WireError}
 use Rattle.guest_wire.specs.declared.wires.WireRefusal.{WireRefusal}
 use Rattle.guest_wire.specs.declared.wires.WireRefusal.TheVariants as refusals
 use Rattle.guest_wire.specs.Wires.{WireView, Boards, Sent, world_at, KeepsWire}
-use Rattle.guest_wire.specs.Requests.{message, init_request, open_request, read_request, write_request, write_at}
+use Rattle.guest_wire.specs.Requests.{message, init_request, open_request, getattr_request, read_request, write_request, write_at}
 use Rattle.guest_wire.specs.Answers.{Answers, Succeeded, SaysOpened, SaysWrote}
 use Rattle.guest_wire.proofs.Hearing.{succeeded}
 use Rattle.guest_wire.proofs.Serving.{IsServable-answer}
@@ -143,7 +151,48 @@ writes wire gives before old unique at off bytes result after new answer live h 
     let w = world_at (wire before) old in
     record { by = succeeded wire gives SaysWrote before old (message unique at.node (write_request at off bytes)) (replies.Wrote (record { size = length bytes })) (record w { files = applied w.files (at.node - 2) (ops.Write off bytes) }) result after new answer live.honest live.whole refl (write_succeeds w at.node (write_at at.fh off (length bytes)) bytes h small within) }
 
+-- the attributes of a file of this size
+abbrev pub told_size : World → ℕ → ℕ → AttrOut
+told_size w node size = attr_out_of (file_attr w.state node size)
+
+abbrev pub SaysAttr : AttrOut → Reply → Type 0
+SaysAttr out reply = reply ≡ replies.Attr out
+
+links_fit : (b : Bool) → (if b then 1 else 0) < 2 ^ 32
+links_fit true = omega arith
+links_fit false = omega arith
+
+getattr_succeeds : (w : World) (node : ℕ) (r : GetattrIn) → r.getattr_flags ≡ 1 → HasOpenFile w.state node r.fh → length w.state.made ≤ 16 → size_of (file_at w.files (node - 2)) ≤ max_file
+    → Succeeds w node (asks.Getattr r) (replies.Attr (told_size w node (size_of (file_at w.files (node - 2))))) (record w { files = applied w.files (node - 2) ops.Size })
+unfolding answered getattr is_made file_attr file_answer answer size_in is_init is_forget kind_of reply_form form_of is_reply reply_parts attr_out attr_rec FitsParts
+getattr_succeeds w node r flags h few small =
+    let made = h.made in
+    let low : node ≤ 17 = grind (arith, common_steps) in
+    let known = is_known-open w.state node r.fh h in
+    let file = is_file w.state node h.made in
+    let allowed = may_apply_size w.files (node - 2) in
+    record {
+      may_ask = rw h.started refl;
+      has_reply = refl;
+      gives = rw (known, flags, h.handle, file, allowed) refl;
+      good = refl;
+      formed = refl;
+      fits = (omega arith, (omega arith, (tt, (omega arith, (omega arith, (omega arith, (omega arith, (omega arith, (omega arith, (omega arith, (omega arith, (omega arith, (omega arith, (links_fit (is_some (made_at w.state node).name), (omega arith, (omega arith, (omega arith, (omega arith, (omega arith, tt)))))))))))))))))));
+    }
+
+pub sizes : {S : Type 0} (wire : S → WireView) (gives : S → Boards → Sent → Result (List ℕ) WireError → S → Boards → Type 0) (before : S) (old : Boards) (unique : ℕ) (at : FileRef) (result : Result AttrOut WireRefusal) (after : S) (new : Boards)
+    → Answers wire gives SaysAttr before old (message unique at.node (getattr_request at)) result after new → IsLive (wire before) old
+    → HasOpenFile (wire before).state at.node at.fh → size_of (file_at old.files (at.node - 2)) ≤ max_file
+    → Finishes SaysAttr (replies.Attr (told_size (world_at (wire before) old) at.node (size_of (file_at old.files (at.node - 2))))) (record (world_at (wire before) old) { files = applied old.files (at.node - 2) ops.Size }) result (world_at (wire after) new)
+unfolding form_of
+sizes wire gives before old unique at result after new answer live h small =
+    let w = world_at (wire before) old in
+    record { by = succeeded wire gives SaysAttr before old (message unique at.node (getattr_request at)) (replies.Attr (told_size w at.node (size_of (file_at old.files (at.node - 2))))) (record w { files = applied w.files (at.node - 2) ops.Size }) result after new answer live.honest live.whole refl (getattr_succeeds w at.node (record { getattr_flags = 1; fh = at.fh }) refl h live.servable.few small) }
+
 -- ---- what a reply says
+
+pub attr_is : (r t : AttrOut) → replies.Attr r ≡ replies.Attr t → t ≡ r
+attr_is r t e = cc
 
 pub entry_is : (r t : EntryOut) → replies.Entry r ≡ replies.Entry t → t ≡ r
 entry_is r t e = cc

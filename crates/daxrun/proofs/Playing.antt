@@ -1,120 +1,108 @@
--- One call more on the only file of a board.
-use Rattle.std.proofs.Common.{◌≡◌, ◌∙◌, ap, refl, ℕ, ◌+◌, ◌-◌, ◌<◌, ◌≤◌, Bool, true, List, [], ◌∷◌, ◌++◌, length, slice_get, Some, arith, length-append}
-use Rattle.std.proofs.lemmas.List.{length-set, length-replicate}
-use Rattle.std.specs.Str.{bytes_eq}
-use Rattle.std.proofs.lemmas.Slice.Eq.{bytes_eq-Decides}
+-- From the run of the guest to the whole transcript.
+use Rattle.std.proofs.Common.{◌≡◌, ◌∙◌, ap, sym, subst, refl, ℕ, zero, suc, ◌+◌, ◌-◌, ◌<◌, ◌≤◌, List, [], ◌∷◌, ◌++◌, length, map, take, replicate, slice_get, slice_index_or, Some, arith, length-append}
+use Rattle.std.proofs.lemmas.List.{length-replicate}
 use Rattle.plain_file.specs.declared.operations.Entry.{Entry}
-use Rattle.plain_file.specs.declared.operations.Op.{Op}
-use Rattle.plain_file.specs.declared.operations.Way.TheVariants.{Req}
 use Rattle.plain_file.specs.declared.operations.First.{First}
-use Rattle.plain_file.specs.File.{after, first_bytes, max_file}
-use Rattle.plain_file.specs.History.{bytes, after_all}
-use Rattle.plain_file.specs.Plain.{new_board}
-use Rattle.plain_file.specs.Board.{FileView, BoardView, file_at, with_own, entry_of, applied, marked, bytes_now, size_of, last_of}
-use Rattle.plain_file.proofs.Grows.{bytes-grown}
-use Rattle.plain_file.proofs.OneFile.{file_at-with_file}
+use Rattle.plain_file.specs.Limits.{max_files}
+use Rattle.plain_file.specs.Plain.{new_board, new_file}
+use Rattle.plain_file.specs.Board.{BoardView, no_file}
 use Rattle.page_map.specs.Board.{MapView}
 use Rattle.page_map.specs.Plain.{new_map}
-use Rattle.fuse_device.specs.State.{State, new_state, begun, looked_up, named, is_made}
-use Rattle.fuse_device.specs.Checks.{is_known, may_open}
+use Rattle.fuse_device.specs.State.{State, new_state}
 use Rattle.fuse_device.specs.Promises.{IsServable, world}
 use Rattle.fuse_device.proofs.Servable.{servable_at_start}
-use Rattle.guest_wire.specs.declared.driver.FileRef.{FileRef}
-use Rattle.guest_wire.specs.Wires.{WireView, boards}
-use Rattle.daxrun.specs.Play.{IsPlayed, IsOpened, firsts_of}
+use Rattle.dax_script.specs.declared.scripts.Call.{Call}
+use Rattle.dax_script.specs.declared.scripts.FileLine.{FileLine}
+use Rattle.dax_script.specs.declared.scripts.Script.{Script}
+use Rattle.dax_audit.specs.declared.transcripts.FilePart.{FilePart}
+use Rattle.dax_audit.specs.declared.transcripts.GuestPart.{GuestPart}
+use Rattle.dax_audit.specs.declared.transcripts.Transcript.{Transcript}
+use Rattle.dax_audit.specs.Legal.{IsLegal}
+use Rattle.daxrun.specs.Carried.{names_of, file_of, op_of, IsPlayable}
+use Rattle.daxrun.specs.Guest.{Asked, part_of, parts_from, IsRunFrom, IsPart}
+use Rattle.daxrun.specs.Session.{IsOwn, first_at, history_at, firsts_of}
+use Rattle.daxrun.proofs.Places.{none_is, some_is, within, map_len, take_more}
+use Rattle.daxrun.proofs.Calling.{call_in, asked_is}
+use Rattle.daxrun.proofs.AllGuests.{legal}
 
-pub bytes_now-with_own : (plain : Bool) (e : Entry) (f : FileView) → bytes_now (with_own plain e f) ≡ after (bytes_now f) e.op
-unfolding bytes_now
-bytes_now-with_own plain e f = bytes-grown f.first f.history e
+-- ---- a board on which nothing was done
 
-slice_get-append_last : (xs : List ℕ) (x : ℕ) → slice_get (xs ++ x ∷ []) (length xs) ≡ Some x
-slice_get-append_last [] x = refl
-slice_get-append_last (y ∷ ys) x = slice_get-append_last ys x
+no_history : (fs : List First) (f : ℕ) → (slice_index_or (map new_file fs) f no_file).history ≡ []
+no_history [] f = refl
+no_history (x ∷ fs) zero = refl
+no_history (x ∷ fs) (suc f) = no_history fs f
 
-pub last_of-append : (xs : List ℕ) (x : ℕ) → last_of (xs ++ x ∷ []) ≡ Some x
-last_of-append xs x =
-    let e : length (xs ++ x ∷ []) - 1 ≡ length xs = omega (arith, length-append xs (x ∷ [])) in
-    ap (slice_get (xs ++ x ∷ [])) e ∙ slice_get-append_last xs x
+pub fresh_new : (fs : List FileLine) (v : BoardView) → v ≡ new_board 0 (firsts_of fs) → (f : ℕ) → history_at v f ≡ []
+fresh_new fs v e f = ap (λ (b : BoardView). history_at b f) e ∙ no_history (firsts_of fs) f
 
--- the entry that the n-th call of guest 0 makes by request
-abbrev pub nth_entry : ℕ → Op → Entry
-nth_entry n op = record { guest = 0; call = n; op = op; way = Req }
+abbrev none_first : First
+none_first = record { size = 0; fill = 0 }
 
-pub record Played (v w : BoardView) (n : ℕ) (op : Op) : Type 0 where
-  pub at : IsPlayed (n + 1) w
-  pub file : file_at w 0 ≡ with_own true (nth_entry n op) (file_at v 0)
+length_firsts : (fs : List FileLine) → length fs ≤ max_files → length (firsts_of fs) ≡ max_files
+length_firsts fs few = omega (arith, length-append (map (λ (f : FileLine). f.first) fs) (replicate (max_files - length fs) none_first), map_len (λ (f : FileLine). f.first) fs, length-replicate (max_files - length fs) none_first)
 
-pub played : (v : BoardView) (n : ℕ) (op : Op) → IsPlayed n v → Played v (applied (marked v n Req) 0 op) n op
-played v n op h =
-    let m = marked v n Req in
-    let f = with_own v.plain (entry_of m op) (file_at v 0) in
-    let there : 0 < length v.files = omega (arith, h.many) in
-    let guest : f ≡ with_own v.plain (nth_entry n op) (file_at v 0) = ap (λ k. with_own v.plain (record { guest = k; call = n; op = op; way = Req }) (file_at v 0)) h.guest in
-    let own : f ≡ with_own true (nth_entry n op) (file_at v 0) = guest ∙ ap (λ b. with_own b (nth_entry n op) (file_at v 0)) h.plain in
-    let file : file_at (applied m 0 op) 0 ≡ with_own true (nth_entry n op) (file_at v 0) = file_at-with_file m 0 f there ∙ own in
-    record {
-      at = record {
-        guest = h.guest;
-        plain = h.plain;
-        many = length-set v.files 0 f ∙ h.many;
-        count = ap (λ (k : FileView). length k.history) file ∙ length-append (file_at v 0).history (nth_entry n op ∷ []) ∙ ap (λ k. k + 1) h.count;
-      };
-      file = file;
-    }
+pub own_new : (fs : List FileLine) (v : BoardView) → v ≡ new_board 0 (firsts_of fs) → length fs ≤ max_files → IsOwn v
+own_new fs v e few = subst IsOwn (sym e) (record { guest = refl; plain = refl; many = map_len new_file (firsts_of fs) ∙ length_firsts fs few })
 
--- a board on which nothing was done
-pub bytes_now-new : (guest : ℕ) (first : First) → bytes_now (file_at (new_board guest (firsts_of first)) 0) ≡ first_bytes first
-unfolding bytes_now bytes after_all
-bytes_now-new guest first = refl
+pub servable_new : (fs : List FileLine) (s : State) (v : BoardView) (m : MapView) → s ≡ new_state 0 (names_of fs) → v ≡ new_board 0 (firsts_of fs) → m ≡ new_map 0 → length fs ≤ max_files → IsServable (world s v m)
+servable_new fs s v m state files map few =
+    let names : length (names_of fs) ≤ 16 = omega (arith, map_len (λ (f : FileLine). f.name) fs) in
+    let enough : 16 ≤ length (firsts_of fs) = omega (arith, length_firsts fs few) in
+    rw (state, files, map) (servable_at_start 0 0 (names_of fs) (firsts_of fs) names enough)
 
-pub played-new : (first : First) → IsPlayed 0 (new_board 0 (firsts_of first))
-played-new first = record { guest = refl; plain = refl; many = refl; count = refl }
+first_from : (fs : List FileLine) (rest : List First) (f : ℕ) (l : FileLine) → slice_get fs f ≡ Some l → (slice_index_or (map new_file (map (λ (x : FileLine). x.first) fs ++ rest)) f no_file).first ≡ l.first
+first_from [] rest f l e = absurd (none_is l e)
+first_from (x ∷ fs) rest zero l e = ap (λ (y : FileLine). y.first) (some_is x l e)
+first_from (x ∷ fs) rest (suc f) l e = first_from fs rest f l e
 
-pub size_of-new : (guest : ℕ) (first : First) → size_of (file_at (new_board guest (firsts_of first)) 0) ≡ first.size
-size_of-new guest first = ap length (bytes_now-new guest first) ∙ length-replicate first.size first.fill
+pub firsts_new : (fs : List FileLine) (v : BoardView) → v ≡ new_board 0 (firsts_of fs) → (f : ℕ) (l : FileLine) → slice_get fs f ≡ Some l → l.first ≡ first_at v f
+firsts_new fs v e f l at = sym (ap (λ (b : BoardView). first_at b f) e ∙ first_from fs (replicate (max_files - length fs) (record { size = 0; fill = 0 })) f l at)
 
-pub small-new : (first : First) (v : BoardView) → v ≡ new_board 0 (firsts_of first) → first.size ≤ max_file → size_of (file_at v 0) ≤ max_file
-small-new first v e small = omega (arith, ap (λ (b : BoardView). size_of (file_at b 0)) e, size_of-new 0 first, small)
+-- ---- the guest's part
 
--- any request can be served over it
-pub servable-new : (name : List ℕ) (first : First) (s : State) (v : BoardView) (m : MapView) → s ≡ new_state 0 (name ∷ []) → v ≡ new_board 0 (firsts_of first) → m ≡ new_map 0 → IsServable (world s v m)
-servable-new name first s v m state files map =
-    let one : length (name ∷ []) ≤ 16 = omega arith in
-    let enough : 16 ≤ length (firsts_of first) = omega arith in
-    rw (state, files, map) (servable_at_start 0 0 (name ∷ []) (firsts_of first) one enough)
+-- a run from the end of empty histories on is one from their beginnings on
+pub run_whole : (first : ℕ → First) (v : BoardView) (h : ℕ → List Entry) (cs : List Call) (part : GuestPart) → ((f : ℕ) → history_at v f ≡ []) → part.guest ≡ 0 → IsRunFrom 0 first (λ f. length (history_at v f)) h cs part.lines → IsPart first h 0 cs part
+run_whole first v h cs part fresh number r = record {
+  number = number;
+  run = record { count = r.count; done = r.done; only = λ f p e le at is. r.only f p e (let z = ap length (fresh f) in omega arith) at is; rising = r.rising };
+}
 
--- ---- the session
+pub one_part : (first : ℕ → First) (h : ℕ → List Entry) (gs : List (List Call)) (calls : List Call) (parts : List GuestPart) (part : GuestPart) → length gs ≤ 1 → slice_get gs 0 ≡ Some calls → parts ≡ part ∷ [] → IsPart first h 0 calls part
+    → (g : ℕ) (cs : List Call) (p : GuestPart) → slice_get gs g ≡ Some cs → slice_get parts g ≡ Some p → IsPart first h g cs p
+one_part first h gs calls parts part one there e is zero cs p at at' =
+    let c : calls ≡ cs = some_is calls cs (sym there ∙ at) in
+    let q : part ≡ p = some_is part p (ap (λ (xs : List GuestPart). slice_get xs 0) (sym e) ∙ at') in
+    subst (λ (z : List Call × GuestPart). IsPart first h 0 z.0 z.1) (λ i. (c i, q i)) is
+one_part first h gs calls parts part one there e is (suc g) cs p at at' = let w = within gs (suc g) cs at in absurd (omega arith)
 
-bytes_eq-self : (bytes : List ℕ) → bytes_eq bytes bytes ≡ true
-bytes_eq-self bytes = (bytes_eq-Decides bytes bytes).1 refl
+-- ---- the files' parts
 
--- the only name
-pub named-first : (name : List ℕ) → named (begun (new_state 0 (name ∷ []))) name ≡ Some 0
-unfolding named
-named-first name = rw (bytes_eq-self name) refl
+pub parts_more : (h : ℕ → List Entry) (n : ℕ) (fs : List FileLine) (f : FileLine) → parts_from h n (fs ++ f ∷ []) ≡ parts_from h n fs ++ part_of h (n + length fs) f ∷ []
+parts_more h n [] f = let z : n ≡ n + 0 = omega arith in ap (λ (k : ℕ). part_of h k f ∷ []) z
+parts_more h n (x ∷ fs) f = let z : n + 1 + length fs ≡ n + suc (length fs) = omega arith in ap (λ (ps : List FilePart). part_of h n x ∷ ps) (parts_more h (n + 1) fs f ∙ ap (λ (k : ℕ). parts_from h (n + 1) fs ++ part_of h k f ∷ []) z)
 
--- the only file, once it was looked up
-pub record IsFound (s : State) : Type 0 where
-  pub started : s.started ≡ true
-  pub known : is_known s 2 ≡ true
-  pub made : is_made s 2 ≡ true
-  pub may : may_open s ≡ true
+-- ---- the whole transcript
 
-pub found-first : (name : List ℕ) → IsFound (looked_up (begun (new_state 0 (name ∷ []))) 0)
-unfolding is_known is_made may_open
-found-first name = record { started = refl; known = refl; made = refl; may = refl }
+pub played_legal : (s : Script) (t : Transcript) (v w : BoardView) → IsPlayable s → t.ranges ≡ 0 → v ≡ new_board 0 (firsts_of s.files) → t.files ≡ parts_from (history_at w) 0 s.files → length t.guests ≡ length s.guests
+    → ((g : ℕ) (cs : List Call) (part : GuestPart) → slice_get s.guests g ≡ Some cs → slice_get t.guests g ≡ Some part → IsPart (first_at v) (history_at w) g cs part)
+    → ((f p : ℕ) (e : Entry) → slice_get (history_at w f) p ≡ Some e → e.guest < length s.guests) → IsLegal s t
+played_legal s t v w h ranges board files count guests known = legal (first_at v) (history_at w) s t (record {
+  no_ranges = h.no_ranges;
+  ranges = ranges;
+  firsts = firsts_new s.files v board;
+  files = files;
+  count = count;
+  guests = guests;
+  in_files = λ g n cs c a at at' asks.
+      let is = h.guests.calls g cs at n c at' in
+      let same : record { file = file_of c; op = op_of c } ≡ a = some_is (record { file = file_of c; op = op_of c }) a (sym (asked_is (length s.files) c is) ∙ asks) in
+      subst (λ (k : ℕ). k < length s.files) (ap (λ (x : Asked). x.file) same) (call_in (length s.files) c is);
+  known = known;
+})
 
--- a mark changes nothing for requests
-pub opened-marked : (at : FileRef) (w : WireView) (v : BoardView) (m : MapView) (n : ℕ) → IsOpened at w (boards v m) → IsOpened at w (boards (marked v n Req) m)
-opened-marked at w v m n h =
-    let k = h.live.servable in
-    record {
-      live = record {
-        honest = h.live.honest;
-        whole = h.live.whole;
-        alone = h.live.alone;
-        servable = record { plain = k.plain; enough = k.enough; ready = k.ready; few = k.few; free = k.free; pages = k.pages };
-      };
-      first = h.first;
-      opened = h.opened;
-    }
+map_last : {A B : Type 0} (F : A → B) (xs : List A) (x : A) → map F (xs ++ x ∷ []) ≡ map F xs ++ F x ∷ []
+map_last F [] x = refl
+map_last F (y ∷ xs) x = ap (λ (zs : List _). F y ∷ zs) (map_last F xs x)
+
+pub mapped_more : {A B : Type 0} (F : A → B) (xs : List A) (i : ℕ) (x : A) → slice_get xs i ≡ Some x → map F (take (i + 1) xs) ≡ map F (take i xs) ++ F x ∷ []
+mapped_more F xs i x at = ap (map F) (take_more xs i x at) ∙ map_last F (take i xs) x

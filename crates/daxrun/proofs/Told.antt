@@ -1,6 +1,10 @@
 -- What holds of an input that is the source's bytes where it tells them.
 use Rattle.std.proofs.Common.{◌≡◌, ℕ, ◌<◌, suc, List, [], length, replicate, Option, Some, None, refl, arith}
 use Rattle.std.specs.Prelude.{IfSome}
+use Rattle.std.specs.Io.KnownBytes.{Appends}
+use Rattle.program_io.specs.declared.statuses.Status.{Status}
+use Rattle.program_io.specs.declared.statuses.Status.TheVariants as statuses
+use Rattle.daxrun.specs.Run.{IsAnswerTo, Answers}
 use Rattle.std.proofs.lemmas.List.{length-replicate}
 
 pub each_input : (o : Option (List ℕ)) (P : List ℕ → Type 0) → ((xs : List ℕ) → P xs) → (input : List ℕ) × IfSome o (λ xs. input ≡ xs) × P input
@@ -17,3 +21,16 @@ longer n = rw (length-replicate {A = ℕ} (suc n) 0) (omega arith)
 pub long_input : (o : Option (List ℕ)) (n : ℕ) (P : List ℕ → Type 0) → ((xs : List ℕ) → n < length xs → P xs) → IfSome o (λ xs. n < length xs) → (input : List ℕ) × IfSome o (λ xs. input ≡ xs) × P input
 long_input None n P h long = (zeros (suc n), tt, h (zeros (suc n)) (longer n))
 long_input (Some xs) n P h long = (xs, refl, h xs long)
+
+-- ---- an answer that was written
+
+-- all of it
+pub answers_all : (input text : List ℕ) (old new : Option (List ℕ)) (before now : ℕ) (status : Status) → IsAnswerTo input status text → Appends old new text → Answers input old new before now status
+answers_all input text old new before now statuses.Ok h all = (text, h, all)
+answers_all input text old new before now statuses.Refused h all = (text, h, all)
+answers_all input text old new before now statuses.Usage h all = absurd h
+answers_all input text old new before now statuses.TooLong h all = absurd h
+answers_all input text old new before now statuses.ReadFault h all = absurd h
+answers_all input text old new before now statuses.WriteFault h all = absurd h
+answers_all input text old new before now statuses.Memory h all = absurd h
+answers_all input text old new before now statuses.NotLegal h all = absurd h

@@ -1,12 +1,5 @@
-pub mod Options
-pub mod Words
-pub mod Script
-pub mod ScriptText
-pub mod Transcript
-pub mod TranscriptText
-pub mod Legal
-pub mod Play
+pub mod Carried
 pub mod Requests
-pub mod Followed
-pub mod TranscriptReading
+pub mod Session
+pub mod Guest
 pub mod Run

@@ -1,17 +1,22 @@
 -- What a run writes, and when it ends with which status.
-use Rattle.std.specs.Prelude.{◌≡◌, ℕ, ◌<◌, ◌≤◌, Bool, true, false, nat_lt, List, [], ◌∷◌, length, codes, Option, Some, None, is_none, if◌then◌else◌}
+use Rattle.std.specs.Prelude.{◌≡◌, ℕ, ◌<◌, ◌≤◌, Bool, true, false, nat_lt, List, [], ◌∷◌, length, codes, Option, Some, None, is_none, Result, Ok, Err, if◌then◌else◌}
+use Rattle.std.specs.Fmt.{decimal}
 use Rattle.std.specs.Str.{bytes_eq}
 use Rattle.std.specs.Io.KnownBytes.{Appends, Keeps}
+use Rattle.plain_file.specs.Counts.{Rose}
+use Rattle.plain_text.specs.Printed.{line}
+use Rattle.dax_script.specs.declared.scripts.Script.{Script}
 use Rattle.program_io.specs.declared.statuses.Status.{Status}
 use Rattle.program_io.specs.declared.statuses.Status.TheVariants as statuses
-use Rattle.plain_file.specs.Counts.{Rose}
+use Rattle.dax_script.specs.declared.whys.Why.{Why}
+use Rattle.dax_script.specs.declared.whys.Why.TheVariants as whys
 use Rattle.program_io.specs.Causes.{AppendsPart}
-use Rattle.daxrun.specs.declared.scripts.Script.{Script}
-use Rattle.daxrun.specs.declared.transcripts.Transcript.{Transcript}
-use Rattle.daxrun.specs.ScriptText.{script_of}
-use Rattle.daxrun.specs.TranscriptText.{text_of}
-use Rattle.daxrun.specs.TranscriptReading.{transcript_of}
-use Rattle.daxrun.specs.Legal.{IsLegal}
+use Rattle.dax_script.specs.ScriptText.{BadLine, script_of}
+use Rattle.dax_audit.specs.declared.transcripts.Transcript.{Transcript}
+use Rattle.dax_audit.specs.Legal.{IsLegal}
+use Rattle.dax_audit.specs.TranscriptText.{text_of}
+use Rattle.dax_audit.specs.TranscriptReading.{transcript_of}
+use Rattle.daxrun.specs.Carried.{is_carried_out}
 
 -- the most bytes that are read
 abbrev pub limit : ℕ
@@ -26,25 +31,69 @@ is_script_command (w ∷ v ∷ ws) = false
 abbrev pub usage_line : List ℕ
 usage_line = codes "usage: daxrun script | load N\n"
 
-abbrev pub refused_line : List ℕ
-refused_line = codes "refused later\n"
-
 abbrev pub too_long_line : List ℕ
 too_long_line = codes "too long\n"
 
--- the text is that of a transcript which is legal for the script that the input is, and it is read as this transcript
-pub record Transcribes (input text : List ℕ) : Type 0 where
-  pub script : Script
+-- ---- refusals
+
+-- the word for a reason
+unfoldable pub why_word : Why → List ℕ
+why_word whys.Order = codes "order"
+why_word whys.Words = codes "words"
+why_word whys.Number = codes "number"
+why_word whys.Limit = codes "limit"
+why_word whys.Name = codes "name"
+why_word whys.File = codes "file"
+why_word whys.Hold = codes "hold"
+why_word whys.Hex = codes "hex"
+why_word whys.Byte = codes "byte"
+why_word whys.Mode = codes "mode"
+why_word whys.Window = codes "window"
+
+-- the first line of a text that is no line of a script, and why
+abbrev pub refused_line : BadLine → List ℕ
+refused_line bad = line (codes "refused" ∷ codes "line" ∷ decimal bad.line ∷ why_word bad.why ∷ [])
+
+-- a script that isn't carried out yet
+abbrev pub later_line : List ℕ
+later_line = codes "refused later\n"
+
+-- the line that refuses a text, by what it reads as; None where it is a script that is carried out
+abbrev pub refusal : Result Script BadLine → Option (List ℕ)
+refusal (Ok s) = if is_carried_out s then None else Some later_line
+refusal (Err bad) = Some (refused_line bad)
+
+-- ---- what is due
+
+-- the text is that of a transcript which is legal for the script, and it is read as this transcript
+pub record IsTextOf (script : Script) (text : List ℕ) : Type 0 where
   pub transcript : Transcript
-  pub reads : script_of input ≡ Some script
   pub legal : IsLegal script transcript
   pub writes : text ≡ text_of transcript
-  pub determined : transcript_of text ≡ Some transcript
+  pub determined : transcript_of text ≡ Ok transcript
+
+-- the input is a script that is carried out, and the text is one of its transcripts
+pub record Transcribes (input text : List ℕ) : Type 0 where
+  pub script : Script
+  pub reads : script_of input ≡ Ok script
+  pub carried : is_carried_out script ≡ true
+  pub told : IsTextOf script text
+
+-- the text of an input that was read whole
+abbrev pub IsAnswerTo : List ℕ → Status → List ℕ → Type 0
+IsAnswerTo input statuses.Ok text = Transcribes input text
+IsAnswerTo input statuses.Refused text = refusal (script_of input) ≡ Some text
+IsAnswerTo input statuses.Usage text = ⊥
+IsAnswerTo input statuses.TooLong text = ⊥
+IsAnswerTo input statuses.ReadFault text = ⊥
+IsAnswerTo input statuses.WriteFault text = ⊥
+IsAnswerTo input statuses.Memory text = ⊥
+IsAnswerTo input statuses.NotLegal text = ⊥
 
 -- the text that is due with a status, for these words and this whole input
 abbrev pub IsDue : List (List ℕ) → List ℕ → Status → List ℕ → Type 0
 IsDue words input statuses.Ok text = (is_script_command words ≡ true) × (length input ≤ limit) × Transcribes input text
-IsDue words input statuses.Refused text = (is_script_command words ≡ true) × (length input ≤ limit) × (script_of input ≡ None) × (text ≡ refused_line)
+IsDue words input statuses.Refused text = (is_script_command words ≡ true) × (length input ≤ limit) × (refusal (script_of input) ≡ Some text)
 IsDue words input statuses.Usage text = (is_script_command words ≡ false) × (text ≡ usage_line)
 IsDue words input statuses.TooLong text = (is_script_command words ≡ true) × (limit < length input) × (text ≡ too_long_line)
 IsDue words input statuses.ReadFault text = ⊥
@@ -55,7 +104,7 @@ IsDue words input statuses.NotLegal text = ⊥
 -- the status that is due, where nothing fails
 abbrev pub due_status : List (List ℕ) → List ℕ → Status
 due_status words input =
-    if is_script_command words then (if nat_lt limit (length input) then statuses.TooLong else if is_none (script_of input) then statuses.Refused else statuses.Ok)
+    if is_script_command words then (if nat_lt limit (length input) then statuses.TooLong else if is_none (refusal (script_of input)) then statuses.Ok else statuses.Refused)
     else statuses.Usage
 
 -- the due status, or a failure
@@ -90,21 +139,10 @@ IsOkOrMemory statuses.WriteFault = ⊥
 IsOkOrMemory statuses.TooLong = ⊥
 IsOkOrMemory statuses.NotLegal = ⊥
 
--- the text of an input that was read whole
-abbrev pub IsAnswerTo : List ℕ → Status → List ℕ → Type 0
-IsAnswerTo input statuses.Ok text = Transcribes input text
-IsAnswerTo input statuses.Refused text = (script_of input ≡ None) × (text ≡ refused_line)
-IsAnswerTo input statuses.Usage text = ⊥
-IsAnswerTo input statuses.TooLong text = ⊥
-IsAnswerTo input statuses.ReadFault text = ⊥
-IsAnswerTo input statuses.WriteFault text = ⊥
-IsAnswerTo input statuses.Memory text = ⊥
-IsAnswerTo input statuses.NotLegal text = ⊥
-
 -- what a sink has after the answer to such an input, by the status: all of the text, a part of it, or nothing
 abbrev pub Answers : List ℕ → Option (List ℕ) → Option (List ℕ) → ℕ → ℕ → Status → Type 0
 Answers input old new before now statuses.Ok = (text : List ℕ) × Transcribes input text × Appends old new text
-Answers input old new before now statuses.Refused = (script_of input ≡ None) × Appends old new refused_line
+Answers input old new before now statuses.Refused = (text : List ℕ) × (refusal (script_of input) ≡ Some text) × Appends old new text
 Answers input old new before now statuses.WriteFault = Rose before now × ((status : Status) × (text : List ℕ) × IsAnswerTo input status text × AppendsPart old new text)
 Answers input old new before now statuses.Memory = Keeps old new
 Answers input old new before now statuses.Usage = ⊥

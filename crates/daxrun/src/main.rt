@@ -2,27 +2,23 @@
 //! the transcript: each file's history and each call's reply.
 //!
 //! `main` makes the real source, sink and words, and calls `runs::run`, whose contract is the
-//! program's. A text is read by `parsing`, run by `plays` through the `requests` of the client, and the
-//! transcript is printed by `printing`. The definitions stand in `specs/`: `ScriptText` (what text
-//! is a script), `Legal` (when a transcript is legal for a script), `TranscriptText` and
-//! `TranscriptReading` (its text), `Run` (what a run writes with which status).
+//! program's. A script is read by `dax_script`, played by `plays`, which opens the files by `sessions` and
+//! makes the calls by `calls`, all through the `requests` of the client, and the transcript is printed by
+//! `transcript_text`. The definitions stand in `specs/`: `Run` (what a run writes with which status),
+//! `Carried` (which scripts are carried out), `Guest` (what one guest did, and what all did together),
+//! `Session` (a guest's open files). What a script is, and when a transcript is legal for it, is said in
+//! `dax_script` and `dax_audit`.
 #![tactic(auto)]
 
-mod laws;
-mod parsing;
+mod calls;
 #[cfg(test)]
 mod play_tests;
 mod plays;
-mod printing;
-#[cfg(test)]
-mod printing_tests;
 mod requests;
 #[cfg(test)]
 mod run_tests;
 mod runs;
-mod scripts;
-mod transcripts;
-mod words;
+mod sessions;
 
 use program_io::{Status, StdSink, StdSource, command_words};
 use plain_file::Memory;

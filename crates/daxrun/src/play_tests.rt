@@ -1,13 +1,13 @@
-ghost use Rattle.std.specs.Prelude.{◌≡◌, [], ◌∷◌, slice_get, Some, true, false};
+ghost use Rattle.std.specs.Prelude.{◌≡◌, true, false, IfSome};
 ghost use Rattle.fuse_device.specs.State.{new_state};
-ghost use Rattle.daxrun.specs.declared.scripts.FileLine.{FileLine};
-ghost use Rattle.daxrun.specs.Script.{IsFirstForm};
+ghost use Rattle.daxrun.specs.Carried.{names_of, IsPlayable};
 
-use crate::parsing::parse;
-use crate::plays::{daemon_of, play};
-use crate::run_tests::HELLO;
-use crate::scripts::Script;
+use crate::plays::play;
+use crate::run_tests::FOUR;
+use crate::runs::is_carried_out;
+use crate::sessions::daemon_of;
 use dax_host::SoloWire;
+use dax_script::{Script, parse};
 use fuse_wire::InHeader;
 use guest_wire::{Driver, KeepWire, Wire};
 use page_map::PageMap;
@@ -16,9 +16,22 @@ use std::alloc::Global;
 use std::sync::Wait;
 use std::test::Fail;
 
+// The script of a text, where it is carried out.
+fn script_in(alloc: Global, text: &[u8]) -> Option<Script>
+    ensures { IfSome result IsPlayable }
+{
+    let Ok(script) = parse(alloc, text) else {
+        return None;
+    };
+    if !is_carried_out(&script) {
+        return None;
+    }
+    Some(script)
+}
+
 // The requests that playing a script sends.
 fn sent<R: Wait>(rt: &R, alloc: Global, script: &Script) -> Result<List<Blob>, Memory>
-    requires { IsFirstForm script.now }
+    requires { IsPlayable script.now }
 {
     let mut daemon = daemon_of(alloc, script)?;
     let solo = SoloWire::new(alloc, &mut daemon)?;
@@ -35,10 +48,10 @@ fn sent_by<R: Wait, W>(
 ) -> Result<List<Blob>, Memory>
 where
     W: Wire<PlainFiles, PageMap> + Drop,
-    requires form { IsFirstForm script.now }
+    requires playable { IsPlayable script.now }
     requires honest { (W.wire client.wire.inner).honest ≡ true }
     requires whole { (W.wire client.wire.inner).stays ≡ false }
-    requires new { (f : FileLine) → slice_get script.now.files 0 ≡ Some f → (W.wire client.wire.inner).state ≡ new_state 0 (f.name ∷ []) }
+    requires new { (W.wire client.wire.inner).state ≡ new_state 0 (names_of script.now.files) }
 {
     play(rt, alloc, script, &mut client)?;
     copies(alloc, client.wire.requests().as_slice())
@@ -52,11 +65,12 @@ fn copies(alloc: Global, requests: &[Blob]) -> Result<List<Blob>, Memory> {
     Ok(list)
 }
 
-// A run sends an INIT, a LOOKUP and an OPEN, then one request for each call, numbered from 1 on.
+// A run sends an INIT, a LOOKUP and an OPEN for each file, then one request for each call (GETATTR, WRITE or
+// READ), numbered from 1 on.
 #[test]
 fn sends_one_request_a_call(rt: HostRuntime) -> Result<(), Fail> {
     let alloc = rt.alloc();
-    let Some(script) = parse(alloc, HELLO.as_bytes())? else {
+    let Some(script) = script_in(alloc, FOUR.as_bytes()) else {
         panic!(&rt; "no script")
     };
     let requests = sent(&rt, alloc, &script)?;
@@ -71,8 +85,20 @@ fn sends_one_request_a_call(rt: HostRuntime) -> Result<(), Fail> {
         };
         headers.push((header.unique, header.opcode))?;
     }
-    let wanted = [(1, 26), (2, 1), (3, 14), (4, 16), (5, 15)];
+    let wanted = [
+        (1, 26),
+        (2, 1),
+        (3, 14),
+        (4, 1),
+        (5, 14),
+        (6, 3),
+        (7, 16),
+        (8, 16),
+        (9, 15),
+        (10, 15),
+        (11, 3),
+        (12, 3),
+    ];
     assert_eq!(rt; headers.as_slice(), wanted.as_slice());
-    assert_eq!(rt; requests.len(), 5);
     Ok(())
 }

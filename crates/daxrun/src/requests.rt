@@ -10,7 +10,7 @@ ghost use Rattle.fuse_device.specs.OpenFiles.{HasOpenFile};
 ghost use Rattle.guest_wire.specs.Wires.{boards, world_at};
 ghost use Rattle.guest_wire.specs.Requests.{next_number};
 ghost use Rattle.daxrun.specs.Requests.{IsLive, IsDoneOrMemory};
-ghost use Rattle.daxrun.specs.Script.{max_call};
+ghost use Rattle.plain_file.specs.Limits.{max_transfer};
 
 use guest_wire::{Driver, FileRef, Wire, WireRefusal};
 use page_map::PageMap;
@@ -109,7 +109,7 @@ where
     requires live { IsLive (W.wire client.old.wire) (boards files.old map.old) }
     requires open { HasOpenFile (W.wire client.old.wire).state at.node at.fh }
     requires some { 0 < len }
-    requires most { len ≤ max_call }
+    requires most { len ≤ max_transfer }
     ensures live { IsLive (W.wire client.new.wire) (boards files.new map.new) }
     ensures bytes { IfOk result (λ b. answers.Bytes b ≡ answer (bytes_now (file_at files.old (at.node - 2))) (ops.Read off len)) }
     ensures fit { IfOk result (AllByRecursion (λ b. b < 256)) }
@@ -138,7 +138,7 @@ where
     requires live { IsLive (W.wire client.old.wire) (boards files.old map.old) }
     requires open { HasOpenFile (W.wire client.old.wire).state at.node at.fh }
     requires some { 0 < length bytes.now }
-    requires most { length bytes.now ≤ max_call }
+    requires most { length bytes.now ≤ max_transfer }
     requires end { off + length bytes.now ≤ max_file }
     ensures live { IsLive (W.wire client.new.wire) (boards files.new map.new) }
     ensures size { IfOk result (λ n. n ≡ length bytes.now) }
@@ -148,6 +148,30 @@ where
 {
     let size = succeed(client.write(rt, alloc, at, off, bytes, files, map))?;
     Ok(size)
+}
+
+// Asks for the size of an open file, in bytes: GETATTR.
+pub(crate) fn size<R: Wait, W>(
+    rt: &R,
+    alloc: Global,
+    client: &mut Driver<W>,
+    at: FileRef,
+    files: &mut PlainFiles,
+    map: &mut PageMap,
+) -> Result<u64, Memory>
+where
+    W: Wire<PlainFiles, PageMap>,
+    requires live { IsLive (W.wire client.old.wire) (boards files.old map.old) }
+    requires open { HasOpenFile (W.wire client.old.wire).state at.node at.fh }
+    requires small { size_of (file_at files.old (at.node - 2)) ≤ max_file }
+    ensures live { IsLive (W.wire client.new.wire) (boards files.new map.new) }
+    ensures size { IfOk result (λ n. answers.Size n ≡ answer (bytes_now (file_at files.old (at.node - 2))) ops.Size) }
+    ensures left { OnOk result (world_at (W.wire client.new.wire) (boards files.new map.new)
+        ≡ record (world_at (W.wire client.old.wire) (boards files.old map.old)) { files = applied files.old (at.node - 2) ops.Size }) }
+    ensures number { client.new.unique ≡ next_number client.old.unique }
+{
+    let told = succeed(client.getattr(rt, alloc, at, files, map))?;
+    Ok(told.attr.size)
 }
 
 // The answer to a request that succeeds.

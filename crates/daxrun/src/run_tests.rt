@@ -11,6 +11,15 @@ pub const HELLO: &str = "ranges 0\nfile a 0\nguest\nwrite a 0 68656c6c6f\nread a
 const HELLO_TOLD: &str =
     "transcript 1\nranges 0\nfile a 0 00\nentry 0 0 req\nentry 0 1 req\nguest 0\n0 done 0 wrote 5\n1 done 1 bytes 68656c6c6f\nend\n";
 
+// Two files, and each call that is carried out.
+pub const FOUR: &str =
+    "# two files\nranges 0\nbackground 0\nfile a 4 ab\nfile b 0\n\nguest\n size   a \nwrite b 2 0102\nfill a 6 3 7f\nread a 0 16\nread b 0 16\nsize a\nsize b";
+
+const FOUR_TOLD: &str =
+    "transcript 1\nranges 0\nfile a 4 ab\nentry 0 0 req\nentry 0 2 req\nentry 0 3 req\nentry 0 5 req\nfile b 0 00\nentry 0 1 req\nentry 0 4 req\nentry 0 6 req\nguest 0\n0 done 0 size 4\n1 done 0 wrote 2\n2 done 1 wrote 3\n3 done 2 bytes abababab00007f7f7f\n4 done 1 bytes 00000102\n5 done 3 size 9\n6 done 2 size 4\nend\n";
+
+const LATER: &str = "refused later\n";
+
 const USAGE: &str = "usage: daxrun script | load N\n";
 
 /// What a source and a sink do: how many bytes a call gives or takes at the most, 0 for no bound,
@@ -71,6 +80,12 @@ pub fn answer_to<R: Wait>(rt: &R, alloc: Global, text: &[u8]) -> Result<(Status,
 fn writes_transcripts(rt: HostRuntime) -> Result<(), Fail> {
     for (script, transcript) in [
         (HELLO, HELLO_TOLD),
+        (FOUR, FOUR_TOLD),
+        ("ranges 0\n", "transcript 1\nranges 0\nend\n"),
+        (
+            "ranges 0\nguest\n",
+            "transcript 1\nranges 0\nguest 0\nend\n",
+        ),
         (
             "ranges 0\nfile a 0\n",
             "transcript 1\nranges 0\nfile a 0 00\nend\n",
@@ -98,6 +113,48 @@ fn writes_transcripts(rt: HostRuntime) -> Result<(), Fail> {
         let (status, taken) = answer_to(&rt, rt.alloc(), script.as_bytes())?;
         assert_eq!(rt; status, Status::Ok, "{script}");
         assert_eq!(rt; taken.as_slice(), transcript.as_bytes(), "{script}");
+    }
+    Ok(())
+}
+
+// Texts that are no script, with their first bad line and its first reason, and scripts that aren't carried
+// out yet.
+#[test]
+fn refuses_texts(rt: HostRuntime) -> Result<(), Fail> {
+    for (text, line) in [
+        ("", "refused line 1 order\n"),
+        ("# no more\n\n", "refused line 3 order\n"),
+        ("ranges 1\n", "refused line 1 limit\n"),
+        ("ranges 00\n", "refused line 1 number\n"),
+        ("ranges 0\nfile a b 0\n", "refused line 2 number\n"),
+        ("ranges 0\nfile A 0\n", "refused line 2 name\n"),
+        ("ranges 0\nfile a 0 0\n", "refused line 2 byte\n"),
+        ("ranges 0\nbackground 1\n", "refused line 2 window\n"),
+        (
+            "ranges 0\nfile a 0\nguest\nread a 0\n",
+            "refused line 4 words\n",
+        ),
+        (
+            "ranges 2\nfile a 0\nguest\nread b 0 1\n",
+            "refused line 4 file\n",
+        ),
+        (
+            "ranges 0\nfile a 0\nguest\nwrite a 0 6\n",
+            "refused line 4 hex\n",
+        ),
+        (
+            "ranges 0\nfile a 0\nguest\nhold a 0 x\n",
+            "refused line 4 mode\n",
+        ),
+        ("ranges 0\nguest\nrelease 0\n", "refused line 3 hold\n"),
+        ("ranges 2\n", LATER),
+        ("ranges 2\nbackground 3\n", LATER),
+        ("ranges 0\nguest\nguest\n", LATER),
+        ("ranges 0\nfile a 0\nguest\ntruncate a 0\n", LATER),
+    ] {
+        let (status, taken) = answer_to(&rt, rt.alloc(), text.as_bytes())?;
+        assert_eq!(rt; status, Status::Refused, "{text}");
+        assert_eq!(rt; taken.as_slice(), line.as_bytes(), "{text}");
     }
     Ok(())
 }
@@ -190,7 +247,7 @@ fn refuses_words(rt: HostRuntime) -> Result<(), Fail> {
 fn reads_to_its_limit(rt: HostRuntime) -> Result<(), Fail> {
     let alloc = rt.alloc();
     for (spaces, status, text) in [
-        (16_777_216, Status::Refused, "refused later\n"),
+        (16_777_216, Status::Refused, "refused line 2 order\n"),
         (16_777_217, Status::TooLong, "too long\n"),
     ] {
         let input = Blob::from_vec(vec![in alloc; b' '; spaces]?);

@@ -1,26 +1,28 @@
-ghost use Rattle.std.specs.Prelude.{◌≡◌, ◌≢◌, ◌≤◌, ◌<◌, ◌+◌, ℕ, List, true, false, Some, None, length, IfOk, IfSome};
+ghost use Rattle.std.specs.Prelude.{◌≡◌, ◌≢◌, ◌≤◌, ◌<◌, ◌+◌, ◌++◌, ℕ, List, true, false, Some, None, Ok, length, IfOk, IfSome, OnOk};
+ghost use Rattle.std.specs.List.{list_all};
 ghost use Rattle.std.specs.Io.KnownBytes.{Appends, Keeps, IsAtEnd};
 ghost use Rattle.plain_file.specs.Counts.{Rose};
 ghost use Rattle.program_io.specs.Causes.{AppendsPart, TakesAtMost, buffer};
 ghost use Rattle.program_io.specs.declared.statuses.Status.{Status};
-ghost use Rattle.daxrun.specs.declared.scripts.Script.{Script};
-ghost use Rattle.daxrun.specs.Legal.{IsLegal};
-ghost use Rattle.daxrun.specs.Script.{IsFirstForm};
-ghost use Rattle.daxrun.specs.ScriptText.{script_of};
-ghost use Rattle.daxrun.specs.TranscriptReading.{IsPrintable};
-ghost use Rattle.daxrun.specs.Run.{limit, is_script_command, usage_line, refused_line, too_long_line, Transcribes, IsDue, due_status, IsExpected, IsUsageOrWriteFault, IsOkOrMemory, Answers};
+ghost use Rattle.dax_script.specs.declared.scripts.Script.{Script};
+ghost use Rattle.dax_script.specs.ScriptText.{BadLine, script_of};
+ghost use Rattle.dax_audit.specs.Legal.{IsLegal};
+ghost use Rattle.dax_audit.specs.TranscriptReading.{IsPrintable, transcript_of};
+ghost use Rattle.daxrun.specs.Carried.{is_carried_out, is_carried_call, IsPlayable};
+ghost use Rattle.daxrun.specs.Run.{limit, is_script_command, usage_line, refused_line, too_long_line, why_word, refusal, IsTextOf, IsAnswerTo, IsDue, due_status, IsExpected, IsUsageOrWriteFault, IsOkOrMemory, Answers};
 
-use crate::parsing::parse;
-use crate::plays::{daemon_of, play};
-use crate::printing::print;
-use crate::scripts::Script;
-use crate::transcripts::Transcript;
+use crate::plays::play;
+use crate::sessions::daemon_of;
+use dax_audit::Transcript;
 use dax_host::SoloWire;
-use program_io::{ReadError, Sink, Source, Status, Word, read_all, write_all};
+use dax_script::{BadScript, Call, Script, Why, parse};
 use guest_wire::Driver;
-use plain_file::{Blob, Memory};
+use plain_file::{Blob, List, Memory};
+use plain_text::{put, put_number};
+use program_io::{ReadError, Sink, Source, Status, Word, read_all, write_all};
 use std::alloc::Global;
 use std::sync::Wait;
+use transcript_text::print;
 
 // The most bytes that are read.
 const LIMIT: usize = 16_777_216;
@@ -34,7 +36,9 @@ const LIMIT: usize = 16_777_216;
 /// reading, text, run, writing:
 ///
 /// - `Ok`: the source was read to its end, and the whole transcript was taken.
-/// - `Refused`: the text isn't a script that this version runs, and `refused later` was taken.
+/// - `Refused`: the text is no script, and a line as `refused line 4 words` was taken, which says its first
+///   bad line, counted from 1, and why; or it is a script that isn't carried out yet, and `refused later` was
+///   taken.
 /// - `Usage`: the words are no command, and the usage line was taken; nothing was read.
 /// - `ReadFault`: the source failed; nothing was written.
 /// - `WriteFault`: the sink failed; what was taken is a front of the text due, and not all of it.
@@ -51,7 +55,8 @@ pub fn run<R: Wait, S: Source, K: Sink>(
         × ((input : List ℕ) × IfSome (S.left source.old) (λ xs. input ≡ xs)
         × ((text : List ℕ) × IsDue words.now input Status.Ok text × Appends (K.taken sink.old) (K.taken sink.new) text)) }
     ensures refused { result ≡ Status.Refused → IsAtEnd (S.left source.new)
-        × IfSome (S.left source.old) (λ input. IsDue words.now input Status.Refused refused_line) × Appends (K.taken sink.old) (K.taken sink.new) refused_line }
+        × ((input : List ℕ) × IfSome (S.left source.old) (λ xs. input ≡ xs)
+        × ((text : List ℕ) × IsDue words.now input Status.Refused text × Appends (K.taken sink.old) (K.taken sink.new) text)) }
     ensures usage { result ≡ Status.Usage → (is_script_command words.now ≡ false) × Appends (K.taken sink.old) (K.taken sink.new) usage_line }
     ensures read_fault { result ≡ Status.ReadFault → (is_script_command words.now ≡ true) × Rose (S.faults source.old) (S.faults source.new) × Keeps (K.taken sink.old) (K.taken sink.new) }
     ensures write_fault { result ≡ Status.WriteFault → Rose (K.faults sink.old) (K.faults sink.new)
@@ -65,8 +70,8 @@ pub fn run<R: Wait, S: Source, K: Sink>(
     // Each of the other statuses comes where it is due.
     ensures due { IfSome (S.left source.old) (λ input. IsExpected (due_status words.now input) result) }
     ensures no_command { is_script_command words.now ≡ false → IsUsageOrWriteFault result × (source.new ≡ source.old) }
-    ensures complete { (input : List ℕ) (s : Script) → is_script_command words.now ≡ true → S.left source.old ≡ Some input → length input ≤ limit → script_of input ≡ Some s
-        → (Rose (S.faults source.old) (S.faults source.new) → ⊥) → (Rose (K.faults sink.old) (K.faults sink.new) → ⊥) → IsOkOrMemory result }
+    ensures complete { (input : List ℕ) (s : Script) → is_script_command words.now ≡ true → S.left source.old ≡ Some input → length input ≤ limit → script_of input ≡ Ok s
+        → is_carried_out s ≡ true → (Rose (S.faults source.old) (S.faults source.new) → ⊥) → (Rose (K.faults sink.old) (K.faults sink.new) → ⊥) → IsOkOrMemory result }
     ensures most { TakesAtMost (limit + buffer) (S.left source.old) (S.left source.new) }
 {
     if !is_script(words) {
@@ -100,35 +105,118 @@ fn is_script(words: &[Word]) -> bool
 fn run_script<R: Wait, K: Sink>(rt: &R, alloc: Global, input: &[u8], sink: &mut K) -> Status
     ensures { Answers input.now (K.taken sink.old) (K.taken sink.new) (K.faults sink.old) (K.faults sink.new) result }
 {
-    match transcribe(rt, alloc, input) {
-        Ok(Some(text)) => match write_all(sink, text.as_slice()) {
-            Ok(()) => Status::Ok,
-            Err(_) => Status::WriteFault,
-        },
-        Ok(None) => match write_all(sink, b"refused later\n") {
-            Ok(()) => Status::Refused,
+    match answer_to(rt, alloc, input) {
+        Ok((status, text)) => match write_all(sink, text.as_slice()) {
+            Ok(()) => status,
             Err(_) => Status::WriteFault,
         },
         Err(_) => Status::Memory,
     }
 }
 
-// The text of the transcript of a script's run; None for a text that is no script.
-fn transcribe<R: Wait>(rt: &R, alloc: Global, input: &[u8]) -> Result<Option<Blob>, Memory>
-    ensures some { IfOk result (λ o. IfSome o (Transcribes input.now)) }
-    ensures none { IfOk result (λ o. o ≡ None → script_of input.now ≡ None) }
+// The text that answers an input, and its status: a transcript, or why there is none.
+fn answer_to<R: Wait>(rt: &R, alloc: Global, input: &[u8]) -> Result<(Status, Blob), Memory>
+    ensures { IfOk result (λ a. IsAnswerTo input.now a.0 a.1) }
 {
-    let Some(script) = parse(alloc, input)? else {
-        return Ok(None);
-    };
-    let transcript = play_script(rt, alloc, &script)?;
-    let text = print(alloc, &transcript)?;
-    Ok(Some(text))
+    match parse(alloc, input) {
+        Ok(script) => {
+            if !is_carried_out(&script) {
+                let text = Blob::copy_of(alloc, b"refused later\n")?;
+                return Ok((Status::Refused, text));
+            }
+            let text = transcribe(rt, alloc, &script)?;
+            Ok((Status::Ok, text))
+        }
+        Err(BadScript::Line { line, why }) => {
+            let text = refused_line(alloc, line, why)?;
+            Ok((Status::Refused, text))
+        }
+        Err(BadScript::Memory) => Err(Memory),
+    }
 }
 
-// Plays a script by requests that go through a virtqueue to the daemon of its file.
+// Whether a script is carried out: without a window, with at most one guest, whose calls read, write or ask
+// for the size.
+#[tactic(auto, unfolding(crate::specs::Carried::is_carried_out))]
+pub(crate) fn is_carried_out(script: &Script) -> bool
+    ensures { result ≡ is_carried_out script.now }
+{
+    if script.ranges != 0 || script.background != 0 {
+        return false;
+    }
+    match script.guests.as_slice() {
+        [] => true,
+        [calls] => are_carried_calls(calls.as_slice()),
+        _ => false,
+    }
+}
+
+fn are_carried_calls(calls: &[Call]) -> bool
+    ensures { result ≡ list_all is_carried_call calls.now }
+{
+    calls.iter().all(|call| is_carried_call(call))
+}
+
+#[tactic(auto, unfolding(crate::specs::Carried::is_carried_call))]
+fn is_carried_call(call: &Call) -> bool
+    ensures { result ≡ is_carried_call call.now }
+{
+    match call {
+        Call::Read { .. } | Call::Write { .. } | Call::Fill { .. } | Call::Size { .. } => true,
+        Call::Truncate { .. }
+        | Call::Hold { .. }
+        | Call::Load { .. }
+        | Call::Store { .. }
+        | Call::Release { .. } => false,
+    }
+}
+
+// The line that says which line of a text is no line of a script, and why.
+#[tactic(auto, unfolding(plain_text::specs::Printed::joined))]
+fn refused_line(alloc: Global, line: u64, why: Why) -> Result<Blob, Memory>
+    ensures { IfOk result (λ text. text ≡ refused_line (record { line = line; why = why })) }
+{
+    let mut out = Vec::new(alloc);
+    put(&mut out, b"refused line ")?;
+    put_number(&mut out, line)?;
+    put(&mut out, b" ")?;
+    put_why(&mut out, why)?;
+    put(&mut out, b"\n")?;
+    Ok(List::from_vec(out))
+}
+
+#[tactic(auto, unfolding(crate::specs::Run::why_word))]
+fn put_why(out: &mut Vec<u8>, why: Why) -> Result<(), Memory>
+    ensures { OnOk result (out.new.items ≡ out.old.items ++ why_word why) }
+{
+    match why {
+        Why::Order => put(out, b"order"),
+        Why::Words => put(out, b"words"),
+        Why::Number => put(out, b"number"),
+        Why::Limit => put(out, b"limit"),
+        Why::Name => put(out, b"name"),
+        Why::File => put(out, b"file"),
+        Why::Hold => put(out, b"hold"),
+        Why::Hex => put(out, b"hex"),
+        Why::Byte => put(out, b"byte"),
+        Why::Mode => put(out, b"mode"),
+        Why::Window => put(out, b"window"),
+    }
+}
+
+// The text of the transcript of a script's run.
+fn transcribe<R: Wait>(rt: &R, alloc: Global, script: &Script) -> Result<Blob, Memory>
+    requires { IsPlayable script.now }
+    ensures { IfOk result (IsTextOf script.now) }
+{
+    let transcript = play_script(rt, alloc, script)?;
+    let text = print(alloc, &transcript)?;
+    Ok(text)
+}
+
+// Plays a script by requests that go through a virtqueue to the daemon of its files.
 fn play_script<R: Wait>(rt: &R, alloc: Global, script: &Script) -> Result<Transcript, Memory>
-    requires { IsFirstForm script.now }
+    requires { IsPlayable script.now }
     ensures legal { IfOk result (IsLegal script.now) }
     ensures printable { IfOk result IsPrintable }
 {

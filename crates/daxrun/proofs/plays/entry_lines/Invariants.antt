@@ -1,6 +1,11 @@
 use Rattle.std.proofs.Common.{◌≡◌, map, take}
-use Rattle.daxrun.specs.Play.{entry_line}
+use Rattle.std.specs.List.{AllByRecursion}
+use Rattle.dax_audit.specs.TranscriptReading.{IsPrintableEntry}
+use Rattle.daxrun.specs.Guest.{entry_line}
 use Rattle.daxrun.proofs.plays.entry_lines.Given as goal
 
 abbrev pub invariant-loop-entry : goal.invariant-loop-entry
-invariant-loop-entry l = l.lines ≡ map entry_line (take l.entry-index l.history)
+invariant-loop-entry l = record {
+  lines : l.lines ≡ map entry_line (take l.entry-index l.history);
+  printable : AllByRecursion IsPrintableEntry l.lines;
+}

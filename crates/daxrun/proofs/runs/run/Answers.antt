@@ -1,4 +1,4 @@
-use Rattle.std.proofs.Common.{Err, ap, ◌∙◌, ◌<◌, ℕ, List, length, refl, sym}
+use Rattle.std.proofs.Common.{Err, ap, ◌∙◌, ℕ, List, refl, sym}
 use Rattle.program_io.specs.Causes.{AppendsPart}
 use Rattle.program_io.specs.declared.statuses.Status.{Status}
 use Rattle.program_io.specs.declared.statuses.Status.TheVariants as statuses

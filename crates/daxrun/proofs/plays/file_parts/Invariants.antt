@@ -1,0 +1,13 @@
+use Rattle.std.proofs.Common.{◌≡◌, take}
+use Rattle.std.specs.List.{AllByRecursion}
+use Rattle.dax_audit.specs.TranscriptReading.{IsPrintableFile}
+use Rattle.daxrun.specs.Guest.{parts_from}
+use Rattle.daxrun.specs.Session.{history_at}
+use Rattle.daxrun.proofs.plays.file_parts.Given as goal
+
+abbrev pub invariant-loop-line : goal.invariant-loop-line
+invariant-loop-line l = record {
+  number : l.number ≡ l.line-index;
+  parts : l.parts ≡ parts_from (history_at l.files) 0 (take l.line-index l.lines);
+  printable : AllByRecursion IsPrintableFile l.parts;
+}

@@ -1,9 +1,0 @@
-use Rattle.std.proofs.Common.{◌∷◌, codes, decimal, append_assoc, rules}
-use Rattle.daxrun.specs.TranscriptText.{way_words}
-use Rattle.daxrun.proofs.PrintedWords.{joined_first}
-use Rattle.daxrun.proofs.printing.put_entry.Goals as goal
-
-pub returns : goal.returns
-returns c =
-    let entry = c.args.entry.now in
-    rw (joined_first (codes "entry") (decimal entry.guest ∷ decimal entry.call ∷ way_words entry.way)) (search (rules, append_assoc))

@@ -1,7 +1,0 @@
-use Rattle.std.proofs.Common.{◌≡◌, ◌++◌, take}
-use Rattle.std.specs.List.{flat_map}
-use Rattle.daxrun.specs.TranscriptText.{line, file_lines}
-use Rattle.daxrun.proofs.printing.put_files.Given as goal
-
-abbrev pub invariant-loop-file : goal.invariant-loop-file
-invariant-loop-file l = l.out.items ≡ l.fn.out.items ++ flat_map line (flat_map file_lines (take l.file-index l.files))

@@ -1,7 +1,0 @@
-use Rattle.std.proofs.Common.{◌≡◌, ◌++◌, take}
-use Rattle.std.specs.List.{flat_map}
-use Rattle.daxrun.specs.TranscriptText.{line, guest_lines}
-use Rattle.daxrun.proofs.printing.put_guests.Given as goal
-
-abbrev pub invariant-loop-guest : goal.invariant-loop-guest
-invariant-loop-guest l = l.out.items ≡ l.fn.out.items ++ flat_map line (flat_map guest_lines (take l.guest-index l.guests))

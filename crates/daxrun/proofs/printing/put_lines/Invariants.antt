@@ -1,7 +1,0 @@
-use Rattle.std.proofs.Common.{◌≡◌, ◌++◌, map, take}
-use Rattle.std.specs.List.{flat_map}
-use Rattle.daxrun.specs.TranscriptText.{line, numbered_words}
-use Rattle.daxrun.proofs.printing.put_lines.Given as goal
-
-abbrev pub invariant-loop-numbered : goal.invariant-loop-numbered
-invariant-loop-numbered l = l.out.items ≡ l.fn.out.items ++ flat_map line (map numbered_words (take l.numbered-index l.lines))
