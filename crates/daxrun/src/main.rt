@@ -20,8 +20,8 @@ mod run_tests;
 mod runs;
 mod sessions;
 
-use program_io::{Status, StdSink, StdSource, command_words};
 use plain_file::Memory;
+use program_io::{Status, StdSink, StdSource, command_words};
 use std::env;
 use std::process::ExitCode;
 

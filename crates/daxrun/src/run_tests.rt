@@ -1,6 +1,6 @@
 use crate::runs::run;
-use program_io::{MemSink, MemSource, Status, SureSink, SureSource, Word};
 use plain_file::{Blob, List, Memory};
+use program_io::{MemSink, MemSource, Status, SureSink, SureSource, Word};
 use std::alloc::{AllocError, Global};
 use std::sync::Wait;
 use std::test::Fail;

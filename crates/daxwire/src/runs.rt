@@ -22,9 +22,10 @@ use std::alloc::Global;
 /// for each frame. With the word `ring` it reads a ring image, serves the chains that it offers, and
 /// writes what came of them. Every text goes to the sink. It returns always.
 ///
-/// The answers to the whole frames of a stream that were read are written before more is read. No more
-/// than one frame and one read of 65,536 bytes is kept, whatever the stream's length. An image is read
-/// whole before anything is written. The statuses:
+/// The answers to the whole frames of a stream that were read are written before more is read, and as soon
+/// as a megabyte of them is due. Of the stream no more than one frame and one read of 65,536 bytes is kept,
+/// whatever its length; what is served keeps its files, with their histories. An image is read whole before
+/// anything is written. The statuses:
 ///
 /// - `Ok`: the source was read to its end, which for a stream is behind a whole frame or the header, and
 ///   all answers were taken.
