@@ -1,8 +1,9 @@
 -- A script that some text gives keeps the limits of scripts.
-use Rattle.std.proofs.Common.{◌≡◌, ◌∙◌, ap, sym, subst, refl, ℕ, ◌+◌, ◌≤◌, ◌==◌, ◌&&◌, ◌||◌, not, Bool, true, false, nat_lt, nat_le, List, [], ◌∷◌, ◌++◌, length, append_assoc, length-append, append-nil, codes, Option, Some, None, is_none, unwrap_or, Result, Ok, Err, if◌then◌else◌, arith, tests}
+use Rattle.std.proofs.Common.{◌≡◌, ◌↔◌, ◌∙◌, ap, sym, subst, refl, ℕ, ◌+◌, ◌≤◌, ◌==◌, ◌&&◌, ◌||◌, not, Bool, true, false, nat_lt, nat_le, List, [], ◌∷◌, ◌++◌, length, append_assoc, length-append, append-nil, codes, Option, Some, None, is_none, unwrap_or, Result, Ok, Err, if◌then◌else◌, arith, tests}
 use Rattle.std.proofs.lemmas.Bool.{and_parts, and_from, or_right}
 use Rattle.std.proofs.lemmas.List.Folds.{list_all-append}
 use Rattle.std.specs.Result.{IfOk}
+use Rattle.std.proofs.lemmas.Result.{IfOk-at_ok}
 use Rattle.std.specs.List.{list_all, list_any, sum_by}
 use Rattle.std.specs.Str.{bytes_eq}
 use Rattle.plain_file.specs.File.{max_file}
@@ -13,13 +14,17 @@ use Rattle.dax_script.specs.declared.scripts.FileLine.{FileLine}
 use Rattle.dax_script.specs.declared.scripts.Script.{Script}
 use Rattle.dax_script.specs.declared.whys.Why.{Why}
 use Rattle.dax_script.specs.declared.whys.Why.TheVariants as whys
+use Rattle.dax_script.specs.declared.whys.BadScript.{BadScript}
+use Rattle.dax_script.specs.declared.whys.BadScript.TheVariants as bads
 use Rattle.dax_script.specs.Steps.{◌then◌, where_holds, none, one, two, three}
 use Rattle.dax_script.specs.ScriptWords.{between, ranges_number, is_script_name, new_name, byte, hold_modes, is_ranges, is_called}
 use Rattle.dax_script.specs.ScriptText.{Draft, start, guests_with, moved, max_calls, max_moved, are_few, has_window, call_of, call_added, call_line, ranges_line, max_background, background_line, zeros_file, filled_file, file_of_words, file_line, max_guests, guest_line, is_first, later_line, worded_line, worded, is_comment, line_read, BadLine, or_bad, finished, script_from, script_of}
+use Rattle.dax_script.specs.ScriptPrinted.{text_of}
+use Rattle.dax_script.specs.Halts.{Parses}
 use Rattle.dax_script.specs.Fits.{call_fits, calls_fit, file_fits, files_fit, fits}
 use Rattle.dax_script.proofs.Totals.{sum_last}
 use Rattle.dax_script.proofs.CallsAgain.{holds_le, holds_lt}
-use Rattle.dax_script.proofs.RoundTrip.{Fitting}
+use Rattle.dax_script.proofs.RoundTrip.{Fitting, script_again}
 use Rattle.dax_script.proofs.ReadWords.{any_value, then_yields, where_yields, if_yields, between_yields, ranges_number_yields, new_name_yields, byte_yields}
 use Rattle.dax_script.proofs.ReadCalls.{call_yields}
 
@@ -289,3 +294,12 @@ from_yields n d (l ∷ m ∷ ls) f =
 pub text_fits : (text : List ℕ) → IfOk (script_of text) (λ s. fits s ≡ true)
 unfolding script_of
 text_fits text = from_yields 1 start (parts line_end text) start_fits
+
+pub parsed_fits : (r : Result Script BadScript) (text : List ℕ) → Parses r (script_of text) → IfOk r KeepsLimits
+parsed_fits (Ok s) text e = IfOk-at_ok KeepsLimits e (text_fits text)
+parsed_fits (Err bads.Memory) text h = tt
+parsed_fits (Err (bads.Line line why)) text h = tt
+
+-- a script fits exactly if some text gives it, and then its printed form does
+pub fits_exactly : (s : Script) → (fits s ≡ true) ↔ ((text : List ℕ) × (script_of text ≡ Ok s))
+fits_exactly s = (λ e. (text_of s, script_again s e), λ w. IfOk-at_ok KeepsLimits w.1 (text_fits w.0))

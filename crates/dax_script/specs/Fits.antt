@@ -1,4 +1,4 @@
--- Whether a script keeps the limits of scripts.
+-- Whether a script keeps the limits of scripts, as exactly those do that some text gives.
 use Rattle.std.specs.Prelude.{ℕ, ◌+◌, ◌==◌, ◌&&◌, ◌||◌, Bool, true, not, nat_lt, nat_le, List, [], ◌∷◌, ◌++◌, length, slice_get}
 use Rattle.std.specs.List.{list_any, list_all}
 use Rattle.plain_file.specs.File.{max_file}

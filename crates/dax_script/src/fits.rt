@@ -18,8 +18,9 @@ use plain_file::{List, MAX_FILE, MAX_FILES, MAX_TRANSFER};
 const MAX_HOLDS: usize = 32;
 
 impl Script {
-    /// Whether the script keeps the limits of scripts, so that its printed form reads as this script
-    /// again. It takes no memory.
+    /// Whether the script keeps the limits of scripts, as exactly those scripts do that some text gives
+    /// ([`fits_is_what_texts_give`](crate::fits_is_what_texts_give)). Its printed form then reads as this
+    /// script again. It takes no memory.
     #[tactic(auto, unfolding(crate::specs::Fits::fits))]
     pub fn fits(&self) -> bool
         ensures { result ≡ fits self.now }

@@ -1,4 +1,5 @@
-ghost use Rattle.std.specs.Prelude.{◌+◌, ◌<◌, ◌^◌, ◌∷◌, []};
+ghost use Rattle.std.specs.Prelude.{◌≡◌, ◌+◌, ◌<◌, ◌^◌, ◌∷◌, [], true, IfOk};
+ghost use Rattle.dax_script.specs.Fits.{fits};
 ghost use Rattle.dax_script.specs.Halts.{GivesAt, Parses};
 ghost use Rattle.dax_script.specs.ScriptText.{line_read, script_from, script_of};
 
@@ -11,9 +12,11 @@ use std::alloc::Global;
 
 /// The script that a text is, exactly where it has the form of scripts; else the first line that
 /// hasn't, counted from 1, and that line's first reason. `Memory` comes only where an allocation was
-/// refused.
+/// refused. The script keeps the limits of scripts, so what [`print`](crate::print) writes of it reads as
+/// the script again.
 pub fn parse(alloc: Global, text: &[u8]) -> Result<Script, BadScript>
-    ensures { Parses result (script_of text.now) }
+    ensures reads { Parses result (script_of text.now) }
+    ensures fits { IfOk result (λ s. fits s ≡ true) }
 {
     let mut reading = Reading::new(alloc);
     let mut line = 1;
