@@ -210,9 +210,9 @@ next_other : (n : ℕ) → n < 2 ^ 16 → (next_index n == n) ≡ false
 next_other n h = let other : next_index n ≢ n = omega arith in grind (arith, nat_tests, other)
 
 -- what the device hands back is what the driver takes
-pub back_taken : (mem : List ℕ) (r : RingView) (size part room len : ℕ) → IsQueueSize size → r.layout ≡ driver_layout size part → r.used_index < 2 ^ 16 → len ≤ room → room ≤ part → part ≤ max_part → length mem ≡ 28 * size + 16 + 2 * part → used_at (used_pushed r mem 0 len) size r.used_index (Some room) ≡ Ok (Some (record { head = 0; len = len }))
+pub back_taken : (mem : List ℕ) (r : RingView) (size part room len : ℕ) → IsQueueSize size → r.layout ≡ driver_layout size part → r.used_index < 2 ^ 16 → len ≤ room → room ≤ max_part → length mem ≡ 28 * size + 16 + 2 * part → used_at (used_pushed r mem 0 len) size r.used_index (Some room) ≡ Ok (Some (record { head = 0; len = len }))
 unfolding used_at
-back_taken mem r size part room len s layout fits small top largest h =
+back_taken mem r size part room len s layout fits small top h =
     let at = 20 * size + 8 + 4 + 8 * (r.used_index % size) in
     let place : r.used_index % size < size = omega (arith, s.least) in
     let bound = s.least in

@@ -18,7 +18,7 @@ OfferedIsGathered = (v : DriverView) (mem bytes : List ℕ) (room : ℕ) → IsO
 
 -- what a device pushes that has pushed as many chains as were taken back, the driver takes
 abbrev pub PushedIsTaken : Type 0
-PushedIsTaken = (mem : List ℕ) (r : RingView) (size part room len : ℕ) → IsQueueSize size → r.layout ≡ driver_layout size part → r.used_index < 2 ^ 16 → len ≤ room → room ≤ part → part ≤ max_part → length mem ≡ (driver_layout size part).memory → used_at (used_pushed r mem 0 len) size r.used_index (Some room) ≡ Ok (Some (record { head = 0; len = len }))
+PushedIsTaken = (mem : List ℕ) (r : RingView) (size part room len : ℕ) → IsQueueSize size → r.layout ≡ driver_layout size part → r.used_index < 2 ^ 16 → len ≤ room → room ≤ max_part → length mem ≡ (driver_layout size part).memory → used_at (used_pushed r mem 0 len) size r.used_index (Some room) ≡ Ok (Some (record { head = 0; len = len }))
 
 -- what the device scattered into the offered room before it pushed, the driver finds there
 abbrev pub ScatteredIsWritten : Type 0

@@ -4,12 +4,13 @@ ghost use Rattle.vring.specs.Driver.{driver_layout, IsQueueSize};
 
 use super::*;
 
-// A driver's side with its memory.
+// A driver's side of 100 bytes a part, with its memory.
 #[derive(Drop)]
 struct Offering {
     mem: GuestMem,
     driver: DriverRing,
     ghost fits: { length mem ≡ (driver_layout driver.size driver.part).memory },
+    ghost part_is: { driver.part ≡ 100 },
 }
 
 impl Offering {
@@ -22,8 +23,7 @@ impl Offering {
 
     fn offer(&mut self, rt: &impl Abort, readable: &[u8], room: u32) {
         assert!(rt; self.driver.room().is_none());
-        let most = self.driver.part();
-        assert!(rt; readable.len() <= most as usize && room <= most);
+        assert!(rt; readable.len() <= 100 && room <= 100);
         assert!(rt; self.driver.offer(&mut self.mem, readable, room) == 0);
     }
 }
@@ -165,6 +165,7 @@ struct Both {
     driver: DriverRing,
     ring: Ring,
     ghost driver_fits: { length mem ≡ (driver_layout driver.size driver.part).memory },
+    ghost part_is: { driver.part ≡ 100 },
     ghost ring_fits: { length mem ≡ ring.layout.memory },
 }
 
