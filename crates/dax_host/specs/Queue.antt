@@ -1,9 +1,10 @@
 -- A queue with both its sides over one memory: how far a request has come through it, and what it
 -- leaves there.
-use Rattle.std.specs.Prelude.{◌≡◌, ℕ, Bool, ◌&&◌, nat_le, List, length, replicate, Some, None, if◌then◌else◌}
+use Rattle.std.specs.Prelude.{◌≡◌, ◌≤◌, ℕ, Bool, ◌&&◌, nat_le, List, length, replicate, Some, None, if◌then◌else◌}
+use Rattle.plain_file.specs.Limits.{max_part}
 use Rattle.vring.specs.declared.chains.Chain.{Chain}
 use Rattle.vring.specs.Chain.{ChainLiesIn}
-use Rattle.vring.specs.Driver.{DriverView, IsQueueSize, driver_layout, part_room, offered_in, offered_room}
+use Rattle.vring.specs.Driver.{DriverView, IsQueueSize, driver_layout, offered_in, offered_room}
 use Rattle.vring.specs.Pieces.{scattered}
 use Rattle.vring.specs.Ring.{RingView, next_index, used_pushed}
 
@@ -16,8 +17,9 @@ pub record QueueView : Type 0 where
 -- both sides lie in the same memory, and the driver took back what the device pushed
 pub record IsSetUp (q : QueueView) : Type 0 where
   pub size : IsQueueSize q.driver.size
-  pub layout : q.ring.layout ≡ driver_layout q.driver.size
-  pub len : length q.memory ≡ (driver_layout q.driver.size).memory
+  pub part : q.driver.part ≤ max_part
+  pub layout : q.ring.layout ≡ driver_layout q.driver.size q.driver.part
+  pub len : length q.memory ≡ (driver_layout q.driver.size q.driver.part).memory
   pub used : q.ring.used_index ≡ q.driver.taken
 
 -- nothing is offered, and the device has seen all
@@ -37,28 +39,28 @@ pub record IsOffered (q : QueueView) (room : ℕ) : Type 0 where
 pub record IsDelivered (q : QueueView) (room : ℕ) (chain : Chain) : Type 0 where
   pub out : IsOffered q room
   pub seen : q.ring.seen ≡ q.driver.offered
-  pub writable : chain.writable ≡ offered_room q.driver.size room
+  pub writable : chain.writable ≡ offered_room q.driver.size q.driver.part room
   pub lies : ChainLiesIn (length q.memory) chain
 
--- a queue of so many descriptors in which nothing was offered yet: its memory is all 0
-unfoldable pub fresh_queue : ℕ → QueueView
-fresh_queue size = record {
-  driver = record { size = size; offered = 0; taken = 0; room = None };
-  ring = record { layout = driver_layout size; seen = 0; used_index = 0 };
-  memory = replicate (driver_layout size).memory 0;
+-- a queue of so many descriptors, with room for so many bytes of either part, in which nothing was offered yet: its memory is all 0
+unfoldable pub fresh_queue : ℕ → ℕ → QueueView
+fresh_queue size part = record {
+  driver = record { size = size; part = part; offered = 0; taken = 0; room = None };
+  ring = record { layout = driver_layout size part; seen = 0; used_index = 0 };
+  memory = replicate (driver_layout size part).memory 0;
 }
 
--- a queue of so many descriptors takes both parts of a request: so many bytes, and so much room
+-- so many bytes of either part take both parts of a request: so many bytes, and so much room
 abbrev pub takes : ℕ → ℕ → ℕ → Bool
-takes size len room = nat_le len (part_room size) && nat_le room (part_room size)
+takes part len room = nat_le len part && nat_le room part
 
--- the least of the numbers 8, 64 and 1,024 of descriptors that take both parts
-unfoldable pub size_for : ℕ → ℕ → ℕ
-size_for len room = if takes 8 len room then 8 else if takes 64 len room then 64 else 1024
+-- the least of 8,192, 65,536 and the most bytes of a part that takes both parts
+unfoldable pub part_for : ℕ → ℕ → ℕ
+part_for len room = if takes 8192 len room then 8192 else if takes 65536 len room then 65536 else max_part
 
--- the queue that a request goes through: the one that is there, or a larger one in which nothing was offered yet, where both parts don't find room in that
+-- the queue that a request goes through: the one that is there, or, where both parts don't find room in that, one with more room in which nothing was offered yet
 unfoldable pub queue_for : QueueView → ℕ → ℕ → QueueView
-queue_for q len room = if takes q.driver.size len room then q else fresh_queue (size_for len room)
+queue_for q len room = if takes q.driver.part len room then q else fresh_queue q.driver.size (part_for len room)
 
 -- ---- a request's way through the queue
 
@@ -76,7 +78,7 @@ after_pop q = record q { ring = record q.ring { seen = next_index q.ring.seen } 
 
 -- the device writes an answer into the room
 abbrev pub after_answer : QueueView → ℕ → List ℕ → QueueView
-after_answer q room answer = record q { memory = scattered q.memory (offered_room q.driver.size room) answer }
+after_answer q room answer = record q { memory = scattered q.memory (offered_room q.driver.size q.driver.part room) answer }
 
 -- the device pushes the request with so many bytes written, and the driver takes it back
 abbrev pub after_return : QueueView → ℕ → QueueView

@@ -14,8 +14,11 @@ use std::alloc::Global;
 use std::marker::Model;
 use vring::{Chain, powers_of_two_are_queue_sizes};
 
-// How many descriptors the queue has at first. A request takes two, and the room for its parts goes by their number.
-const SIZE: u16 = 8;
+// How many descriptors the queue has. A request takes two of them.
+const SIZE: u16 = 4;
+
+// How many bytes of room either part of a request has at first.
+const PART: u32 = 8192;
 
 // A queue for one request at a time, between two requests.
 #[derive(Debug, Drop)]
@@ -39,11 +42,11 @@ impl Model for Queue {
 impl Queue {
     // A queue in which nothing was offered.
     pub(crate) fn new(alloc: Global) -> Result<Queue, Memory>
-        ensures { IfOk result (λ q. q ≡ fresh_queue 8) }
+        ensures { IfOk result (λ q. q ≡ fresh_queue 4 8192) }
     {
         powers_of_two_are_queue_sizes();
         Ok(Queue {
-            sides: Sides::new(alloc, SIZE)?,
+            sides: Sides::new(alloc, SIZE, PART)?,
             chain: Chain::new(alloc),
             readable: Vec::new(alloc),
         })

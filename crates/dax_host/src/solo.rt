@@ -14,9 +14,11 @@ use std::sync::Wait;
 /// section 2.7) and back. It is honest, never fails, and doesn't wait.
 ///
 /// What it gives for a request says what becomes of the queue's memory and of both its sides: the request
-/// was offered, popped, answered by the bytes of the daemon's step, pushed and taken back. The queue is as
-/// large as the requests were that went through it: one that doesn't find room for both of its parts goes
-/// through a new one, of 64 or 1,024 descriptors, where nothing was offered before.
+/// was offered, popped, answered by the bytes of the daemon's step, pushed and taken back. The queue has as
+/// much room as the requests wanted that went through it: one that doesn't find room for both of its parts
+/// goes through a new one of as many descriptors, with 8,192, 65,536 or
+/// [`MAX_PART`](plain_file::MAX_PART) bytes of room for either part, the least that does, in which nothing
+/// was offered before.
 #[derive(Drop)]
 pub struct SoloWire<'a> {
     daemon: &'a mut Daemon,
@@ -24,11 +26,12 @@ pub struct SoloWire<'a> {
 }
 
 impl<'a> SoloWire<'a> {
-    /// A wire to this daemon, with a queue of its own: it has eight descriptors, nothing was offered yet,
-    /// and its memory, of 16,688 bytes, is all 0. `Memory` comes where an allocation was refused.
+    /// A wire to this daemon, with a queue of its own: it has four descriptors and 8,192 bytes of room for
+    /// either part of a request, nothing was offered yet, and its memory, of 16,512 bytes, is all 0.
+    /// `Memory` comes where an allocation was refused.
     pub fn new(alloc: Global, daemon: &'a mut Daemon) -> Result<SoloWire<'a>, Memory>
         ensures wire { IfOk result (λ w. solo_wire w ≡ record { honest = true; over = None; faults = 0; stays = false; state = daemon.old }) }
-        ensures queue { IfOk result (λ w. solo_queue w ≡ fresh_queue 8) }
+        ensures queue { IfOk result (λ w. solo_queue w ≡ fresh_queue 4 8192) }
     {
         let queue = Queue::new(alloc)?;
         Ok(SoloWire { daemon, queue })

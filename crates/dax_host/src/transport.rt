@@ -1,16 +1,15 @@
 ghost use Rattle.std.specs.Prelude.{◌≡◌, ◌≤◌, ℕ, false, length, IfOk, OnOk, OnErr};
 ghost use Rattle.plain_file.specs.Limits.{max_part};
 ghost use Rattle.vring.specs.Chain.{ChainLiesIn};
-ghost use Rattle.vring.specs.Driver.{IsQueueSize, driver_layout, part_room, offered_room};
-ghost use Rattle.dax_host.specs.Queue.{IsIdle, IsOffered, IsDelivered, fresh_queue, takes, size_for, queue_for, after_offer, after_pop, after_answer, after_return, given_up};
+ghost use Rattle.vring.specs.Driver.{IsQueueSize, driver_layout, offered_room};
+ghost use Rattle.dax_host.specs.Queue.{IsIdle, IsOffered, IsDelivered, fresh_queue, takes, part_for, queue_for, after_offer, after_pop, after_answer, after_return, given_up};
 
 use plain_file::{Blob, Memory};
 use std::alloc::Global;
 use std::marker::Model;
 use vring::{
-    Chain, DriverRing, GuestMem, MAX_PART, PART_PER_DESCRIPTOR, PopError, Ring,
-    driver_areas_are_allowed, gather_into, offered_is_gathered, offered_is_popped,
-    powers_of_two_are_queue_sizes, pushed_is_taken, room_is_offered, scatter,
+    Chain, DriverRing, GuestMem, MAX_PART, PopError, Ring, driver_areas_are_allowed, gather_into,
+    offered_is_gathered, offered_is_popped, room_is_offered, scatter,
 };
 
 // Both sides of a queue, and the memory in which it lies.
@@ -29,38 +28,36 @@ impl Model for Sides {
     ghost view = { λ s. record { driver = s.driver; ring = s.ring; memory = s.memory } };
 }
 
-// Whether a queue of so many descriptors takes both parts of a request.
-fn takes(size: u16, len: usize, room: u32) -> bool
-    ensures { result ≡ takes size len room }
+// Whether so many bytes of either part take both parts of a request.
+fn takes(part: u32, len: usize, room: u32) -> bool
+    ensures { result ≡ takes part len room }
 {
-    let most = PART_PER_DESCRIPTOR * size as u32;
-    len <= most as usize && room <= most
+    len <= part as usize && room <= part
 }
 
-// How many descriptors a queue has that takes both parts of a request.
-#[tactic(auto, unfolding(crate::specs::Queue::size_for))]
-fn size_for(len: usize, room: u32) -> u16
+// How many bytes of either part a queue has room for that takes both parts of a request.
+#[tactic(auto, unfolding(crate::specs::Queue::part_for))]
+fn part_for(len: usize, room: u32) -> u32
     requires len { len ≤ max_part }
     requires room { room ≤ max_part }
-    ensures value { result ≡ size_for len room }
-    ensures queue { IsQueueSize result }
-    ensures len { len ≤ part_room result }
-    ensures room { room ≤ part_room result }
+    ensures value { result ≡ part_for len room }
+    ensures most { result ≤ max_part }
+    ensures len { len ≤ result }
+    ensures room { room ≤ result }
 {
-    powers_of_two_are_queue_sizes();
-    if takes(8, len, room) {
-        8
-    } else if takes(64, len, room) {
-        64
+    if takes(8_192, len, room) {
+        8_192
+    } else if takes(65_536, len, room) {
+        65_536
     } else {
-        1024
+        MAX_PART
     }
 }
 
 // The device's side of a driver's ring, which has seen and pushed as many chains as `start` says.
 fn device_of(driver: &DriverRing, start: u16, memory: &GuestMem) -> Ring
-    requires { length memory.now ≡ (driver_layout driver.now.size).memory }
-    ensures { result ≡ record { layout = driver_layout driver.now.size; seen = start; used_index = start } }
+    requires { length memory.now ≡ (driver_layout driver.now.size driver.now.part).memory }
+    ensures { result ≡ record { layout = driver_layout driver.now.size driver.now.part; seen = start; used_index = start } }
 {
     driver_areas_are_allowed();
     let (descriptors, available, used) = driver.device();
@@ -68,15 +65,17 @@ fn device_of(driver: &DriverRing, start: u16, memory: &GuestMem) -> Ring
 }
 
 impl Sides {
-    // A queue of so many descriptors, in which nothing was offered.
+    // A queue of so many descriptors, with room for so many bytes of either part, in which nothing was
+    // offered.
     #[tactic(auto, unfolding(crate::specs::Queue::fresh_queue))]
-    pub(crate) fn new(alloc: Global, size: u16) -> Result<Sides, Memory>
-        requires { IsQueueSize size }
-        ensures size { IfOk result (λ q. q.driver.size ≡ size) }
-        ensures fresh { IfOk result (λ q. q ≡ fresh_queue size) }
+    pub(crate) fn new(alloc: Global, size: u16, part: u32) -> Result<Sides, Memory>
+        requires queue { IsQueueSize size }
+        requires part { part ≤ max_part }
+        ensures part { IfOk result (λ q. q.driver.part ≡ part) }
+        ensures fresh { IfOk result (λ q. q ≡ fresh_queue size part) }
         ensures idle { IfOk result (λ q. IsIdle q) }
     {
-        let (driver, memory) = DriverRing::new(alloc, size)?;
+        let (driver, memory) = DriverRing::new(alloc, size, part)?;
         let ring = device_of(&driver, 0, &memory);
         Ok(Sides {
             driver,
@@ -85,36 +84,37 @@ impl Sides {
         })
     }
 
-    // A queue for both parts of a request, in which nothing was offered.
-    fn for_parts(alloc: Global, len: usize, room: u32) -> Result<Sides, Memory>
+    // A queue of so many descriptors for both parts of a request, in which nothing was offered.
+    fn for_parts(alloc: Global, size: u16, len: usize, room: u32) -> Result<Sides, Memory>
+        requires queue { IsQueueSize size }
         requires len { len ≤ max_part }
         requires room { room ≤ max_part }
-        ensures fresh { IfOk result (λ q. q ≡ fresh_queue (size_for len room)) }
-        ensures len { IfOk result (λ q. len ≤ part_room q.driver.size) }
-        ensures room { IfOk result (λ q. room ≤ part_room q.driver.size) }
+        ensures fresh { IfOk result (λ q. q ≡ fresh_queue size (part_for len room)) }
+        ensures len { IfOk result (λ q. len ≤ q.driver.part) }
+        ensures room { IfOk result (λ q. room ≤ q.driver.part) }
         ensures idle { IfOk result (λ q. IsIdle q) }
     {
-        let size = size_for(len, room);
-        Sides::new(alloc, size)
+        let part = part_for(len, room);
+        Sides::new(alloc, size, part)
     }
 
-    // Makes room for both parts of a request: a larger queue, where this one doesn't take them.
+    // Makes room for both parts of a request: a queue with more of it, where this one doesn't take them.
     #[tactic(auto, unfolding(crate::specs::Queue::queue_for))]
     pub(crate) fn make_room(&mut self, alloc: Global, len: usize, room: u32) -> Result<(), Memory>
         requires idle { IsIdle self.old }
         requires len { len ≤ max_part }
         requires room { room ≤ max_part }
         ensures ok { OnOk result (self.new ≡ queue_for self.old len room) }
-        ensures len { OnOk result (len ≤ part_room self.new.driver.size) }
-        ensures room { OnOk result (room ≤ part_room self.new.driver.size) }
+        ensures len { OnOk result (len ≤ self.new.driver.part) }
+        ensures room { OnOk result (room ≤ self.new.driver.part) }
         ensures err { OnErr result (self.new ≡ self.old) }
         ensures small { OnErr result (takes self.old.driver.size len room ≡ false) }
         ensures idle { IsIdle self.new }
     {
-        if takes(self.driver.size(), len, room) {
+        if takes(self.driver.part(), len, room) {
             return Ok(());
         }
-        *self = Sides::for_parts(alloc, len, room)?;
+        *self = Sides::for_parts(alloc, self.driver.size(), len, room)?;
         Ok(())
     }
 
@@ -127,8 +127,8 @@ impl Sides {
         room: u32,
     ) -> Result<(), Memory>
         requires idle { IsIdle self.old }
-        requires readable { length readable.now ≤ part_room self.old.driver.size }
-        requires room { room ≤ part_room self.old.driver.size }
+        requires readable { length readable.now ≤ self.old.driver.part }
+        requires room { room ≤ self.old.driver.part }
         ensures ok { OnOk result (IsDelivered self.new room chain.new) }
         ensures bytes { OnOk result (bytes.new.items ≡ readable.now) }
         ensures popped { OnOk result (self.new ≡ after_pop (after_offer self.old readable.now room)) }
@@ -138,6 +138,7 @@ impl Sides {
         ensures out { IsOffered self.new room }
     {
         self.driver.size();
+        self.driver.part();
         self.driver.offered();
         offered_is_popped();
         offered_is_gathered();
@@ -155,14 +156,13 @@ impl Sides {
     // Hands a request back with so many bytes written, and takes it back.
     fn push(&mut self, len: u32, room: u32)
         requires out { IsOffered self.old room }
-        requires room { room ≤ part_room self.old.driver.size }
+        requires room { room ≤ self.old.driver.part }
         requires fits { len ≤ room }
         ensures queue { self.new ≡ after_return self.old len }
         ensures len { length self.new.memory ≡ length self.old.memory }
     {
         self.driver.size();
         self.ring.used_index();
-        pushed_is_taken();
         self.ring.push_used(&mut self.memory, 0, len);
         match self.driver.take_used(&self.memory) {
             Ok(Some(_)) => {}
@@ -173,7 +173,7 @@ impl Sides {
     // Hands a request back that wasn't served; the device begins again behind it.
     pub(crate) fn give_up(&mut self, room: u32)
         requires out { IsOffered self.old room }
-        requires room { room ≤ part_room self.old.driver.size }
+        requires room { room ≤ self.old.driver.part }
         ensures queue { self.new ≡ after_return
             (record self.old { ring = record self.old.ring { seen = self.old.driver.offered } }) 0 }
         ensures idle { IsIdle self.new }
@@ -192,8 +192,8 @@ impl Sides {
         room: u32,
     ) -> Result<(), Memory>
         requires idle { IsIdle self.old }
-        requires readable { length readable.now ≤ part_room self.old.driver.size }
-        requires room { room ≤ part_room self.old.driver.size }
+        requires readable { length readable.now ≤ self.old.driver.part }
+        requires room { room ≤ self.old.driver.part }
         ensures ok { OnOk result (IsDelivered self.new room chain.new) }
         ensures bytes { OnOk result (bytes.new.items ≡ readable.now) }
         ensures popped { OnOk result (self.new ≡ after_pop (after_offer self.old readable.now room)) }
@@ -210,7 +210,7 @@ impl Sides {
     // Writes the answer into the room of the chain.
     fn put_answer(&mut self, chain: &Chain, bytes: &[u8], room: u32) -> u32
         requires lies { ChainLiesIn (length self.old.memory) chain.now }
-        requires room { chain.now.writable ≡ offered_room self.old.driver.size room }
+        requires room { chain.now.writable ≡ offered_room self.old.driver.size self.old.driver.part room }
         requires fits { length bytes.now ≤ room }
         ensures queue { self.new ≡ after_answer self.old room bytes.now }
         ensures len { length self.new.memory ≡ length self.old.memory }
@@ -229,7 +229,7 @@ impl Sides {
         room: u32,
     ) -> Result<Blob, Memory>
         requires delivered { IsDelivered self.old room chain.now }
-        requires room { room ≤ part_room self.old.driver.size }
+        requires room { room ≤ self.old.driver.part }
         requires fits { length bytes.now ≤ room }
         ensures bytes { IfOk result (λ b. b ≡ bytes.now) }
         ensures queue { self.new ≡
@@ -244,7 +244,7 @@ impl Sides {
 
 // How much room a delivered chain has.
 pub(crate) fn room_in(chain: &Chain) -> u32
-    ensures { (size room : ℕ) → chain.now.writable ≡ offered_room size room → room ≤ max_part → result ≡ room }
+    ensures { (size part room : ℕ) → chain.now.writable ≡ offered_room size part room → room ≤ max_part → result ≡ room }
 {
     room_is_offered();
     chain.writable.sum().min(MAX_PART as u64) as u32

@@ -14,37 +14,37 @@ use Rattle.vring.specs.Spelling.{descriptor_bytes}
 use Rattle.vring.specs.Pieces.{total, bytes_of, gathered, scattered}
 use Rattle.vring.specs.Chain.{descriptor_at, reached, is_writable, piece_at, fault_of, fault_at, first_fault, readable_of, writable_of, chain_of, ahead, chain_at}
 use Rattle.vring.specs.Ring.{RingView, next_index, used_pushed}
-use Rattle.vring.specs.Driver.{DriverView, IsQueueSize, IsOffer, offered_chain, offered_room, readable_at, writable_at, part_room, driver_layout, offered_in, used_at, written_in}
+use Rattle.vring.specs.Driver.{DriverView, IsQueueSize, IsOffer, offered_chain, offered_room, readable_at, writable_at, driver_layout, offered_in, used_at, written_in}
 use Rattle.vring.proofs.PutLemmas.{length-put_at, read_before, read_behind, read_inside, take_less}
 
 abbrev pub first_descriptor : ℕ → ℕ → Descriptor
 first_descriptor size len = record { addr = readable_at size; len = len; flags = 1; next = 1 }
 
-abbrev pub second_descriptor : ℕ → ℕ → Descriptor
-second_descriptor size room = record { addr = writable_at size; len = room; flags = 2; next = 0 }
+abbrev pub second_descriptor : ℕ → ℕ → ℕ → Descriptor
+second_descriptor size part room = record { addr = writable_at size part; len = room; flags = 2; next = 0 }
 
 -- what the device reads of an offered chain
-pub record IsOffered (m : List ℕ) (size offered len room : ℕ) : Type 0 where
+pub record IsOffered (m : List ℕ) (size part offered len room : ℕ) : Type 0 where
   pub index : u16_at m (16 * size + 2) ≡ next_index offered
   pub head : u16_at m (16 * size + 4 + 2 * (offered % size)) ≡ 0
-  pub first : descriptor_at m (driver_layout size) 0 ≡ first_descriptor size len
-  pub second : descriptor_at m (driver_layout size) 1 ≡ second_descriptor size room
-  pub length_is : length m ≡ 2084 * size + 16
+  pub first : descriptor_at m (driver_layout size part) 0 ≡ first_descriptor size len
+  pub second : descriptor_at m (driver_layout size part) 1 ≡ second_descriptor size part room
+  pub length_is : length m ≡ 28 * size + 16 + 2 * part
 
-two_reached : (m : List ℕ) (size offered len room : ℕ) → IsQueueSize size → IsOffered m size offered len room → reached m (driver_layout size) 0 (size + 1) ≡ 0 ∷ 1 ∷ []
+two_reached : (m : List ℕ) (size part offered len room : ℕ) → IsQueueSize size → IsOffered m size part offered len room → reached m (driver_layout size part) 0 (size + 1) ≡ 0 ∷ 1 ∷ []
 unfolding reached
-two_reached m size offered len room s h =
+two_reached m size part offered len room s h =
     let more : size + 1 ≡ suc (suc (size - 1)) = omega (arith, s.least) in
     let within : nat_lt 1 size ≡ true = grind (arith, nat_tests, s.least) in
     rw (more, h.first, within, h.second) refl
 
-no_fault : (m : List ℕ) (size offered len room : ℕ) → IsOffer size offered len room → IsOffered m size offered len room → first_fault m (driver_layout size) [] (0 ∷ 1 ∷ []) ≡ None
+no_fault : (m : List ℕ) (size part offered len room : ℕ) → IsOffer size part offered len room → IsOffered m size part offered len room → first_fault m (driver_layout size part) [] (0 ∷ 1 ∷ []) ≡ None
 unfolding first_fault fault_at fault_of is_writable
-no_fault m size offered len room o h =
+no_fault m size part offered len room o h =
     let some : nat_le size 0 ≡ false = grind (arith, nat_tests, o.size_is.least) in
     let more : nat_le size 1 ≡ false = grind (arith, nat_tests, o.size_is.least) in
     let a : nat_lt (length m) (readable_at size + len) ≡ false = grind (arith, nat_tests, o.len_is, h.length_is) in
-    let b : nat_lt (length m) (writable_at size + room) ≡ false = grind (arith, nat_tests, o.room_is, h.length_is) in
+    let b : nat_lt (length m) (writable_at size part + room) ≡ false = grind (arith, nat_tests, o.room_is, h.length_is) in
     rw (h.first, h.second, some, more, a, b) refl
 
 one_ahead : (n : ℕ) → n < 2 ^ 16 → ahead (next_index n) n ≡ 1
@@ -54,26 +54,26 @@ piece_is : (m : List ℕ) (l : Layout) (i : ℕ) (d : Descriptor) → descriptor
 unfolding piece_at
 piece_is m l i d e = ap (λ x. record { addr = x.addr; len = x.len }) e
 
-readable_is : (m : List ℕ) (size offered len room : ℕ) → IsOffered m size offered len room → readable_of m (driver_layout size) (0 ∷ 1 ∷ []) ≡ record { addr = readable_at size; len = len } ∷ []
+readable_is : (m : List ℕ) (size part offered len room : ℕ) → IsOffered m size part offered len room → readable_of m (driver_layout size part) (0 ∷ 1 ∷ []) ≡ record { addr = readable_at size; len = len } ∷ []
 unfolding readable_of is_writable
-readable_is m size offered len room h = rw (h.first, h.second, piece_is m (driver_layout size) 0 _ h.first) refl
+readable_is m size part offered len room h = rw (h.first, h.second, piece_is m (driver_layout size part) 0 _ h.first) refl
 
-writable_is : (m : List ℕ) (size offered len room : ℕ) → IsOffered m size offered len room → writable_of m (driver_layout size) (0 ∷ 1 ∷ []) ≡ record { addr = writable_at size; len = room } ∷ []
+writable_is : (m : List ℕ) (size part offered len room : ℕ) → IsOffered m size part offered len room → writable_of m (driver_layout size part) (0 ∷ 1 ∷ []) ≡ record { addr = writable_at size part; len = room } ∷ []
 unfolding writable_of is_writable
-writable_is m size offered len room h = rw (h.first, h.second, piece_is m (driver_layout size) 1 _ h.second) refl
+writable_is m size part offered len room h = rw (h.first, h.second, piece_is m (driver_layout size part) 1 _ h.second) refl
 
 total_one : (a n : ℕ) → total (record { addr = a; len = n } ∷ []) ≡ n
 unfolding total
 total_one a n = omega arith
 
-pub offered_found : (m : List ℕ) (size offered len room : ℕ) → IsOffer size offered len room → IsOffered m size offered len room → chain_at m (driver_layout size) offered ≡ Ok (Some (record { head = 0; readable = record { addr = readable_at size; len = len } ∷ []; writable = record { addr = writable_at size; len = room } ∷ [] }))
+pub offered_found : (m : List ℕ) (size part offered len room : ℕ) → IsOffer size part offered len room → IsOffered m size part offered len room → chain_at m (driver_layout size part) offered ≡ Ok (Some (record { head = 0; readable = record { addr = readable_at size; len = len } ∷ []; writable = record { addr = writable_at size part; len = room } ∷ [] }))
 unfolding chain_at chain_of
-offered_found m size offered len room o h =
+offered_found m size part offered len room o h =
     let some : nat_le size 0 ≡ false = grind (arith, nat_tests, o.size_is.least) in
     let near : nat_lt size 1 ≡ false = grind (arith, nat_tests, o.size_is.least) in
-    let a : nat_lt max_part len ≡ false = grind (arith, nat_tests, o.len_is, o.size_is.most) in
-    let b : nat_lt max_part room ≡ false = grind (arith, nat_tests, o.room_is, o.size_is.most) in
-    rw (h.index, one_ahead offered o.offered_is, near, h.head, some, two_reached m size offered len room o.size_is h, no_fault m size offered len room o h, readable_is m size offered len room h, writable_is m size offered len room h, total_one (readable_at size) len, total_one (writable_at size) room, a, b) refl
+    let a : nat_lt max_part len ≡ false = grind (arith, nat_tests, o.len_is, o.part_is) in
+    let b : nat_lt max_part room ≡ false = grind (arith, nat_tests, o.room_is, o.part_is) in
+    rw (h.index, one_ahead offered o.offered_is, near, h.head, some, two_reached m size part offered len room o.size_is h, no_fault m size part offered len room o h, readable_is m size part offered len room h, writable_is m size part offered len room h, total_one (readable_at size) len, total_one (writable_at size part) room, a, b) refl
 
 -- the numbers of a descriptor fit
 pub record Fits (d : Descriptor) : Type 0 where
@@ -115,13 +115,14 @@ unfolding descriptor_bytes
 first_length d = refl
 
 -- the offered bytes stand where the device reads them
-pub offer_read : (v : DriverView) (mem bytes : List ℕ) (room : ℕ) → IsOffer v.size v.offered (length bytes) room → length mem ≡ 2084 * v.size + 16 → IsOffered (offered_in v mem bytes room) v.size v.offered (length bytes) room
+pub offer_read : (v : DriverView) (mem bytes : List ℕ) (room : ℕ) → IsOffer v.size v.part v.offered (length bytes) room → length mem ≡ 28 * v.size + 16 + 2 * v.part → IsOffered (offered_in v mem bytes room) v.size v.part v.offered (length bytes) room
 unfolding offered_in
 offer_read v mem bytes room o h =
     let size = v.size in
+    let part = v.part in
     let from = readable_at size in
     let first = first_descriptor size (length bytes) in
-    let second = second_descriptor size room in
+    let second = second_descriptor size part room in
     let entry = 16 * size + 4 + 2 * (v.offered % size) in
     let place : v.offered % size < size = omega (arith, o.size_is.least) in
     let a = put_at mem from bytes in
@@ -131,6 +132,7 @@ offer_read v mem bytes room o h =
     let e = put_at d (16 * size + 2) (to_le_bytes w16 (next_index v.offered)) in
     let bound = o.size_is.least in
     let top = o.size_is.most in
+    let largest = o.part_is in
     let a_len : length a ≡ length mem = length-put_at mem from bytes (omega (arith, o.len_is)) in
     let b_len : length b ≡ length a = length-put_at a 0 (descriptor_bytes first) (omega (arith, first_length first)) in
     let c_len : length c ≡ length b = length-put_at b 16 (descriptor_bytes second) (omega (arith, first_length second)) in
@@ -146,23 +148,24 @@ offer_read v mem bytes room o h =
     record {
       index = u16_inside d (16 * size + 2) (next_index v.offered) (omega arith) (omega arith);
       head = u16_behind d (16 * size + 2) _ entry (omega arith) (omega arith) ∙ u16_inside c entry 0 (omega arith) (lit< tt);
-      first = descriptor_read e (driver_layout size) 0 first (omega arith) (record { addr = omega arith; len = omega (arith, o.len_is, o.size_is.most); flags = lit< tt; next = lit< tt }) first_reads;
-      second = descriptor_read e (driver_layout size) 1 second (omega arith) (record { addr = omega arith; len = omega (arith, o.room_is, o.size_is.most); flags = lit< tt; next = lit< tt }) second_reads;
+      first = descriptor_read e (driver_layout size part) 0 first (omega arith) (record { addr = omega arith; len = omega (arith, o.len_is, o.part_is); flags = lit< tt; next = lit< tt }) first_reads;
+      second = descriptor_read e (driver_layout size part) 1 second (omega arith) (record { addr = omega arith; len = omega (arith, o.room_is, o.part_is); flags = lit< tt; next = lit< tt }) second_reads;
       length_is = omega arith;
     }
 
 -- the device finds what the driver offers
-pub offer_found : (v : DriverView) (mem bytes : List ℕ) (room : ℕ) → IsOffer v.size v.offered (length bytes) room → length mem ≡ 2084 * v.size + 16 → chain_at (offered_in v mem bytes room) (driver_layout v.size) v.offered ≡ Ok (Some (offered_chain v.size (length bytes) room))
-offer_found v mem bytes room o h = offered_found (offered_in v mem bytes room) v.size v.offered (length bytes) room o (offer_read v mem bytes room o h)
+pub offer_found : (v : DriverView) (mem bytes : List ℕ) (room : ℕ) → IsOffer v.size v.part v.offered (length bytes) room → length mem ≡ 28 * v.size + 16 + 2 * v.part → chain_at (offered_in v mem bytes room) (driver_layout v.size v.part) v.offered ≡ Ok (Some (offered_chain v.size v.part (length bytes) room))
+offer_found v mem bytes room o h = offered_found (offered_in v mem bytes room) v.size v.part v.offered (length bytes) room o (offer_read v mem bytes room o h)
 
 -- the offered bytes are read in the piece
-pub offer_bytes : (v : DriverView) (mem bytes : List ℕ) (room : ℕ) → IsOffer v.size v.offered (length bytes) room → length mem ≡ 2084 * v.size + 16 → bytes_of (offered_in v mem bytes room) (record { addr = readable_at v.size; len = length bytes }) ≡ bytes
+pub offer_bytes : (v : DriverView) (mem bytes : List ℕ) (room : ℕ) → IsOffer v.size v.part v.offered (length bytes) room → length mem ≡ 28 * v.size + 16 + 2 * v.part → bytes_of (offered_in v mem bytes room) (record { addr = readable_at v.size; len = length bytes }) ≡ bytes
 unfolding offered_in
 offer_bytes v mem bytes room o h =
     let size = v.size in
+    let part = v.part in
     let from = readable_at size in
     let first = first_descriptor size (length bytes) in
-    let second = second_descriptor size room in
+    let second = second_descriptor size part room in
     let entry = 16 * size + 4 + 2 * (v.offered % size) in
     let place : v.offered % size < size = omega (arith, o.size_is.least) in
     let a = put_at mem from bytes in
@@ -207,9 +210,9 @@ next_other : (n : ℕ) → n < 2 ^ 16 → (next_index n == n) ≡ false
 next_other n h = let other : next_index n ≢ n = omega arith in grind (arith, nat_tests, other)
 
 -- what the device hands back is what the driver takes
-pub back_taken : (mem : List ℕ) (r : RingView) (size room len : ℕ) → IsQueueSize size → r.layout ≡ driver_layout size → r.used_index < 2 ^ 16 → len ≤ room → room ≤ part_room size → length mem ≡ 2084 * size + 16 → used_at (used_pushed r mem 0 len) size r.used_index (Some room) ≡ Ok (Some (record { head = 0; len = len }))
+pub back_taken : (mem : List ℕ) (r : RingView) (size part room len : ℕ) → IsQueueSize size → r.layout ≡ driver_layout size part → r.used_index < 2 ^ 16 → len ≤ room → room ≤ max_part → length mem ≡ 28 * size + 16 + 2 * part → used_at (used_pushed r mem 0 len) size r.used_index (Some room) ≡ Ok (Some (record { head = 0; len = len }))
 unfolding used_at
-back_taken mem r size room len s layout fits small top h =
+back_taken mem r size part room len s layout fits small top h =
     let at = 20 * size + 8 + 4 + 8 * (r.used_index % size) in
     let place : r.used_index % size < size = omega (arith, s.least) in
     let bound = s.least in
@@ -226,7 +229,7 @@ back_taken mem r size room len s layout fits small top h =
     rw (layout, moved, other, id, length_is, within) refl
 
 -- .. and gathered of the offered chain
-pub offer_gathered : (v : DriverView) (mem bytes : List ℕ) (room : ℕ) → IsOffer v.size v.offered (length bytes) room → length mem ≡ 2084 * v.size + 16 → gathered (offered_in v mem bytes room) (offered_chain v.size (length bytes) room).readable ≡ bytes
+pub offer_gathered : (v : DriverView) (mem bytes : List ℕ) (room : ℕ) → IsOffer v.size v.part v.offered (length bytes) room → length mem ≡ 28 * v.size + 16 + 2 * v.part → gathered (offered_in v mem bytes room) (offered_chain v.size v.part (length bytes) room).readable ≡ bytes
 offer_gathered v mem bytes room o h = append-nil (bytes_of (offered_in v mem bytes room) (record { addr = readable_at v.size; len = length bytes })) ∙ offer_bytes v mem bytes room o h
 
 scattered_one : (mem bytes : List ℕ) (addr room : ℕ) → length bytes ≤ room → scattered mem (record { addr = addr; len = room } ∷ []) bytes ≡ put_at mem addr bytes
@@ -234,9 +237,9 @@ unfolding scattered
 scattered_one mem bytes addr room h = ap (put_at mem addr) (take_all room bytes h)
 
 -- what the device scatters into the room stands there after it pushed the chain
-pub back_written : (mem bytes : List ℕ) (pieces : List Piece) (r : RingView) (size room head count len : ℕ) → IsQueueSize size → r.layout ≡ driver_layout size → pieces ≡ offered_room size room → len ≡ length bytes → len ≤ room → room ≤ part_room size → length mem ≡ 2084 * size + 16 → written_in (used_pushed r (scattered mem pieces bytes) head count) size len ≡ bytes
-back_written mem bytes pieces r size room head count len s layout pieces_is len_is small top h =
-    let from = writable_at size in
+pub back_written : (mem bytes : List ℕ) (pieces : List Piece) (r : RingView) (size part room head count len : ℕ) → IsQueueSize size → r.layout ≡ driver_layout size part → pieces ≡ offered_room size part room → len ≡ length bytes → len ≤ room → room ≤ part → length mem ≡ 28 * size + 16 + 2 * part → written_in (used_pushed r (scattered mem pieces bytes) head count) size part len ≡ bytes
+back_written mem bytes pieces r size part room head count len s layout pieces_is len_is small top h =
+    let from = writable_at size part in
     let at = 20 * size + 8 + 4 + 8 * (r.used_index % size) in
     let index = 20 * size + 8 + 2 in
     let place : r.used_index % size < size = omega (arith, s.least) in
@@ -252,5 +255,5 @@ back_written mem bytes pieces r size room head count len s layout pieces_is len_
     ∙ read_inside mem from bytes (length bytes) (omega arith) refl)
 
 -- the room's pieces take as many bytes as were offered
-pub room_offered : (pieces : List Piece) (size room : ℕ) → pieces ≡ offered_room size room → total pieces ≡ room
-room_offered pieces size room e = rw e (total_one (writable_at size) room)
+pub room_offered : (pieces : List Piece) (size part room : ℕ) → pieces ≡ offered_room size part room → total pieces ≡ room
+room_offered pieces size part room e = rw e (total_one (writable_at size part) room)

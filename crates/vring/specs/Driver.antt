@@ -1,6 +1,7 @@
 -- What the driver's side keeps, where its memory has what, and what its calls do.
 use Rattle.std.specs.Prelude.{◌≡◌, ℕ, ◌+◌, ◌*◌, ◌%◌, ◌==◌, ◌≤◌, ◌<◌, ◌^◌, Bool, true, false, ◌&&◌, nat_le, List, [], ◌∷◌, length, take, drop, Option, Some, None, Result, Ok, Err, if◌then◌else◌}
 use Rattle.std.specs.Int.{w16, to_le_bytes, is_power_of_two}
+use Rattle.plain_file.specs.Limits.{max_part}
 use Rattle.vring.specs.declared.layouts.Layout.{Layout}
 use Rattle.vring.specs.declared.chains.Piece.{Piece}
 use Rattle.vring.specs.declared.chains.Chain.{Chain}
@@ -14,6 +15,8 @@ use Rattle.vring.specs.Ring.{next_index}
 pub record DriverView : Type 0 where
   -- the queue size
   pub size : ℕ
+  -- how many bytes either part of a chain may have
+  pub part : ℕ
   -- how many chains were offered, and taken back, modulo 2 ^ 16
   pub offered : ℕ
   pub taken : ℕ
@@ -30,17 +33,13 @@ pub record IsQueueSize (size : ℕ) : Type 0 where
 abbrev pub readable_at : ℕ → ℕ
 readable_at size = 28 * size + 16
 
--- .. of which there are at most 1,028 for each descriptor, so that 1,024 descriptors take the most of a part, ..
-abbrev pub part_room : ℕ → ℕ
-part_room size = 1028 * size
-
 -- .. and behind the most of these, as many bytes of room for what it writes
-abbrev pub writable_at : ℕ → ℕ
-writable_at size = readable_at size + part_room size
+abbrev pub writable_at : ℕ → ℕ → ℕ
+writable_at size part = readable_at size + part
 
 -- where the areas lie in the driver's memory, which ends where the most of the room does
-abbrev pub driver_layout : ℕ → Layout
-driver_layout size = record { size = size; descriptors = 0; available = 16 * size; used = 20 * size + 8; memory = 2084 * size + 16 }
+abbrev pub driver_layout : ℕ → ℕ → Layout
+driver_layout size part = record { size = size; descriptors = 0; available = 16 * size; used = 20 * size + 8; memory = 28 * size + 16 + 2 * part }
 
 -- The memory with a chain of these bytes and of so much room: the bytes, descriptor 0 of them with
 -- NEXT, descriptor 1 of the room with WRITE, the entry of head 0, and then the available index.
@@ -48,7 +47,7 @@ unfoldable pub offered_in : DriverView → List ℕ → List ℕ → ℕ → Lis
 offered_in v mem bytes room =
     let a = put_at mem (readable_at v.size) bytes in
     let b = put_at a 0 (descriptor_bytes (record { addr = readable_at v.size; len = length bytes; flags = 1; next = 1 })) in
-    let c = put_at b 16 (descriptor_bytes (record { addr = writable_at v.size; len = room; flags = 2; next = 0 })) in
+    let c = put_at b 16 (descriptor_bytes (record { addr = writable_at v.size v.part; len = room; flags = 2; next = 0 })) in
     let d = put_at c (16 * v.size + 4 + 2 * (v.offered % v.size)) (to_le_bytes w16 0) in
     put_at d (16 * v.size + 2) (to_le_bytes w16 (next_index v.offered))
 
@@ -75,20 +74,21 @@ Takes old mem (Ok None) new = (used_at mem old.size old.taken old.room ≡ Ok No
 Takes old mem (Err e) new = (used_at mem old.size old.taken old.room ≡ Err e) × (new ≡ old)
 
 -- the first bytes of the room
-abbrev pub written_in : List ℕ → ℕ → ℕ → List ℕ
-written_in mem size len = take len (drop (writable_at size) mem)
+abbrev pub written_in : List ℕ → ℕ → ℕ → ℕ → List ℕ
+written_in mem size part len = take len (drop (writable_at size part) mem)
 
 -- a chain that may be offered: so many bytes to read, and so much room
-pub record IsOffer (size offered len room : ℕ) : Type 0 where
+pub record IsOffer (size part offered len room : ℕ) : Type 0 where
   pub size_is : IsQueueSize size
+  pub part_is : part ≤ max_part
   pub offered_is : offered < 2 ^ 16
-  pub len_is : len ≤ part_room size
-  pub room_is : room ≤ part_room size
+  pub len_is : len ≤ part
+  pub room_is : room ≤ part
 
 -- the one piece of so much room, which the device may write
-abbrev pub offered_room : ℕ → ℕ → List Piece
-offered_room size room = record { addr = writable_at size; len = room } ∷ []
+abbrev pub offered_room : ℕ → ℕ → ℕ → List Piece
+offered_room size part room = record { addr = writable_at size part; len = room } ∷ []
 
 -- the chain that the device finds then
-abbrev pub offered_chain : ℕ → ℕ → ℕ → Chain
-offered_chain size len room = record { head = 0; readable = record { addr = readable_at size; len = len } ∷ []; writable = offered_room size room }
+abbrev pub offered_chain : ℕ → ℕ → ℕ → ℕ → Chain
+offered_chain size part len room = record { head = 0; readable = record { addr = readable_at size; len = len } ∷ []; writable = offered_room size part room }

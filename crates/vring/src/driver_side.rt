@@ -1,6 +1,7 @@
 ghost use Rattle.std.specs.Prelude.{◌≡◌, ◌+◌, ◌*◌, ◌^◌, ◌<◌, ◌≤◌, length, replicate, Some, None, IfOk};
+ghost use Rattle.plain_file.specs.Limits.{max_part};
 ghost use Rattle.vring.specs.Ring.{next_index};
-ghost use Rattle.vring.specs.Driver.{DriverView, IsQueueSize, driver_layout, part_room, is_expected, offered_in, used_at, Takes, written_in};
+ghost use Rattle.vring.specs.Driver.{DriverView, IsQueueSize, driver_layout, is_expected, offered_in, used_at, Takes, written_in};
 
 use crate::descriptors::{Descriptor, NEXT, WRITE};
 use crate::memory::GuestMem;
@@ -9,10 +10,6 @@ use plain_file::{Blob, Memory};
 use std::alloc::Global;
 use std::marker::Model;
 use thiserror::Error;
-
-/// How many bytes of either part of a chain a driver's ring takes for each of its descriptors: 1,024
-/// descriptors take [`MAX_PART`](crate::MAX_PART).
-pub const PART_PER_DESCRIPTOR: u32 = 1028;
 
 /// A chain that the device handed back.
 #[derive(Clone, Copy, Debug, PartialEq, Eq)]
@@ -36,42 +33,48 @@ pub struct BadUsed {
 /// time.
 ///
 /// Its memory has the descriptor table at 0, the available ring at 16 bytes a descriptor, the used
-/// ring 8 bytes behind 20 a descriptor, and behind them room for both parts of a chain, of
-/// [`PART_PER_DESCRIPTOR`] bytes a descriptor each. It keeps two indices of its own, both from 0 on and modulo 2^16: how many chains it offered, and how many it
-/// took back.
+/// ring 8 bytes behind 20 a descriptor, and behind them `part` bytes of room for either part of a
+/// chain, what the device reads before what it writes. The driver's side keeps two indices of its
+/// own, both from 0 on and modulo 2^16: how many chains it offered, and how many it took back.
 ///
 /// Every call wants a memory as long as the one that came with the ring. What stands in it may be
 /// anything.
 #[derive(Debug, Drop)]
 pub struct DriverRing {
     size: u16,
+    part: u32,
     offered: u16,
     taken: u16,
     room: Option<u32>,
 }
 
 impl Model for DriverRing {
+    ghost use Rattle.std.specs.Prelude.{◌≤◌};
+    ghost use Rattle.plain_file.specs.Limits.{max_part};
     ghost use Rattle.vring.specs.Driver.{DriverView, IsQueueSize};
 
     ghost Value = { DriverView };
 
-    ghost view = { λ r. record { size = r.size; offered = r.offered; taken = r.taken; room = r.room } };
+    ghost view = { λ r. record { size = r.size; part = r.part; offered = r.offered; taken = r.taken; room = r.room } };
 
-    ghost invariant = { λ r. IsQueueSize r.size };
+    ghost invariant = { λ r. IsQueueSize r.size × (r.part ≤ max_part) };
 }
 
 impl DriverRing {
-    /// A ring of `size` descriptors, a power of two from 4 to 1,024, and the memory in which it
+    /// A ring of `size` descriptors, a power of two from 4 to 1,024, with `part` bytes of room for
+    /// either part of a chain, at most [`MAX_PART`](crate::MAX_PART), and the memory in which it
     /// lies, all 0. Nothing is offered. `Memory` comes where the allocation was refused.
-    pub fn new(alloc: Global, size: u16) -> Result<(DriverRing, GuestMem), Memory>
-        requires { IsQueueSize size }
-        ensures ring { IfOk result (λ p. p.0 ≡ record { size = size; offered = 0; taken = 0; room = None }) }
-        ensures memory { IfOk result (λ p. p.1 ≡ replicate (driver_layout size).memory 0) }
+    pub fn new(alloc: Global, size: u16, part: u32) -> Result<(DriverRing, GuestMem), Memory>
+        requires queue { IsQueueSize size }
+        requires part { part ≤ max_part }
+        ensures ring { IfOk result (λ p. p.0 ≡ record { size = size; part = part; offered = 0; taken = 0; room = None }) }
+        ensures memory { IfOk result (λ p. p.1 ≡ replicate (driver_layout size part).memory 0) }
     {
-        let len = 28 * size as usize + 16 + 2 * part_room(size);
+        let len = 28 * size as usize + 16 + 2 * part as usize;
         let bytes = Blob::from_vec(vec![in alloc; 0u8; len]?);
         let ring = DriverRing {
             size,
+            part,
             offered: 0,
             taken: 0,
             room: None,
@@ -82,7 +85,7 @@ impl DriverRing {
     /// The addresses of the descriptor table, the available ring and the used ring, which the device
     /// is told.
     pub fn device(&self) -> (u64, u64, u64)
-        ensures { let l = driver_layout self.now.size in result ≡ (l.descriptors, l.available, l.used) }
+        ensures { let l = driver_layout self.now.size self.now.part in result ≡ (l.descriptors, l.available, l.used) }
     {
         let size = self.size as u64;
         (0, 16 * size, 20 * size + 8)
@@ -94,6 +97,14 @@ impl DriverRing {
         ensures queue { IsQueueSize self.now.size }
     {
         self.size
+    }
+
+    /// The most bytes of either part of a chain, at most [`MAX_PART`](crate::MAX_PART).
+    pub fn part(&self) -> u32
+        ensures value { result ≡ self.now.part }
+        ensures most { self.now.part ≤ max_part }
+    {
+        self.part
     }
 
     /// How many chains were offered, modulo 2^16.
@@ -124,13 +135,13 @@ impl DriverRing {
     ///
     /// The bytes, the two descriptors and the available ring's entry are written before the
     /// available index is raised (VIRTIO 1.2 section 2.7.13). No chain is offered that wasn't taken
-    /// back, and both parts have at most [`PART_PER_DESCRIPTOR`] bytes a descriptor of the ring.
+    /// back, and each part has at most as many bytes as the ring has room for.
     #[tactic(auto, unfolding(crate::specs::Driver::offered_in))]
     pub fn offer(&mut self, mem: &mut GuestMem, readable: &[u8], room: u32) -> u16
-        requires memory { length mem.old ≡ (driver_layout self.old.size).memory }
+        requires memory { length mem.old ≡ (driver_layout self.old.size self.old.part).memory }
         requires nothing { self.old.room ≡ None }
-        requires readable { length readable.now ≤ part_room self.old.size }
-        requires room { room ≤ part_room self.old.size }
+        requires readable { length readable.now ≤ self.old.part }
+        requires room { room ≤ self.old.part }
         ensures head { result ≡ 0 }
         ensures memory { mem.new ≡ offered_in self.old mem.old readable.now room }
         ensures len { length mem.new ≡ length mem.old }
@@ -145,7 +156,7 @@ impl DriverRing {
             next: 1,
         };
         let second = Descriptor {
-            addr: (readable_at + part_room(self.size)) as u64,
+            addr: (readable_at + self.part as usize) as u64,
             len: room,
             flags: WRITE,
             next: 0,
@@ -169,7 +180,7 @@ impl DriverRing {
     /// the offered head, or its length is above the room, or no chain is offered. After None or
     /// `BadUsed` the driver's side is as it was, so that the same call answers the same.
     pub fn take_used(&mut self, mem: &GuestMem) -> Result<Option<Used>, BadUsed>
-        requires { length mem.now ≡ (driver_layout self.old.size).memory }
+        requires { length mem.now ≡ (driver_layout self.old.size self.old.part).memory }
         ensures { Takes self.old mem.now result self.new }
     {
         match next_used(mem.as_slice(), self.size, self.taken, self.room) {
@@ -183,30 +194,23 @@ impl DriverRing {
         }
     }
 
-    /// The first `len` bytes of the room, at most [`PART_PER_DESCRIPTOR`] a descriptor: what the
+    /// The first `len` bytes of the room, of which there are as many as the most of a part: what the
     /// device wrote, where it is a [`Used`] chain's length.
     pub fn written<'a>(&self, mem: &'a GuestMem, len: u32) -> &'a [u8]
-        requires memory { length mem.now ≡ (driver_layout self.now.size).memory }
-        requires len { len ≤ part_room self.now.size }
-        ensures { result.now ≡ written_in mem.now self.now.size len }
+        requires memory { length mem.now ≡ (driver_layout self.now.size self.now.part).memory }
+        requires len { len ≤ self.now.part }
+        ensures { result.now ≡ written_in mem.now self.now.size self.now.part len }
     {
-        let at = 28 * self.size as usize + 16 + part_room(self.size);
+        let at = 28 * self.size as usize + 16 + self.part as usize;
         &mem.as_slice()[at..at + len as usize]
     }
-}
-
-// How many bytes either part of a chain may have.
-fn part_room(size: u16) -> usize
-    ensures { result ≡ part_room size }
-{
-    PART_PER_DESCRIPTOR as usize * size as usize
 }
 
 // What stands in the used ring at the place of the next chain to be taken back.
 #[tactic(auto, unfolding(crate::specs::Driver::used_at))]
 fn next_used(mem: &[u8], size: u16, taken: u16, room: Option<u32>) -> Result<Option<Used>, BadUsed>
     requires size { IsQueueSize size }
-    requires memory { length mem.now ≡ (driver_layout size).memory }
+    requires memory { 28 * size + 16 ≤ length mem.now }
     ensures { result ≡ used_at mem.now size taken room }
 {
     let used = 20 * size as usize + 8;

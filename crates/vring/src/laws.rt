@@ -20,7 +20,6 @@ pub fn offered_is_gathered()
 
 /// What the device pushes for that chain, with a length up to its room, the driver takes back with
 /// this length.
-#[tactic(auto, using(crate::proofs::Offers::back_taken))]
 pub fn pushed_is_taken()
     ensures { PushedIsTaken }
 {}

@@ -28,7 +28,7 @@ mod walks;
 
 pub use chains::{Chain, Piece, Pieces};
 pub use device_side::Ring;
-pub use driver_side::{BadUsed, DriverRing, PART_PER_DESCRIPTOR, Used};
+pub use driver_side::{BadUsed, DriverRing, Used};
 pub use faults::{NoRoom, Outside, PopError, RingFault};
 pub use laws::{
     driver_areas_are_allowed, offered_is_gathered, offered_is_popped,

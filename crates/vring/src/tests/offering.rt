@@ -4,26 +4,26 @@ ghost use Rattle.vring.specs.Driver.{driver_layout, IsQueueSize};
 
 use super::*;
 
-// A driver's side with its memory.
+// A driver's side of 100 bytes a part, with its memory.
 #[derive(Drop)]
 struct Offering {
     mem: GuestMem,
     driver: DriverRing,
-    ghost fits: { length mem ≡ (driver_layout driver.size).memory },
+    ghost fits: { length mem ≡ (driver_layout driver.size driver.part).memory },
+    ghost part_is: { driver.part ≡ 100 },
 }
 
 impl Offering {
     fn new(alloc: Global, size: u16) -> Result<Offering, Memory>
         requires { IsQueueSize size }
     {
-        let (driver, mem) = DriverRing::new(alloc, size)?;
+        let (driver, mem) = DriverRing::new(alloc, size, 100)?;
         Ok(Offering { mem, driver })
     }
 
     fn offer(&mut self, rt: &impl Abort, readable: &[u8], room: u32) {
         assert!(rt; self.driver.room().is_none());
-        let most = PART_PER_DESCRIPTOR * self.driver.size() as u32;
-        assert!(rt; readable.len() <= most as usize && room <= most);
+        assert!(rt; readable.len() <= 100 && room <= 100);
         assert!(rt; self.driver.offer(&mut self.mem, readable, room) == 0);
     }
 }
@@ -41,7 +41,7 @@ impl Offering {
 
     // The device writes three bytes, and hands the chain back.
     fn hand_back(&mut self, rt: &impl Abort) -> Result<(), Fail> {
-        self.mem.write(4_240, b"xyz")?;
+        self.mem.write(228, b"xyz")?;
         self.mem.write(90, &[1, 0, 0, 0, 0, 0, 3, 0, 0, 0])?;
         self.takes(rt, Ok(Some(Used { head: 0, len: 3 })));
         assert!(rt; self.driver.written(&self.mem, 3) == b"xyz".as_slice());
@@ -50,11 +50,11 @@ impl Offering {
     }
 }
 
-// At size 4 the available ring is at 64, the used ring at 88, what is read at 128, and the room 4,112
+// At size 4 the available ring is at 64, the used ring at 88, what is read at 128, and the room 100
 // bytes behind it: what stands there when "abc" is offered with room for 7 bytes.
 const OFFERED: [(usize, &str); 4] = [
     (0, "8000000000000000 03000000 0100 0100"),
-    (16, "9010000000000000 07000000 0200 0000"),
+    (16, "e400000000000000 07000000 0200 0000"),
     (64, "0000 0100 0000 0000"),
     (128, "616263 00"),
 ];
@@ -85,7 +85,8 @@ fn offers_by_exact_bytes(rt: HostRuntime) -> Result<(), Fail> {
     let alloc = rt.alloc();
     let mut side = Offering::new(alloc, 4)?;
     assert!(rt; side.driver.device() == (0, 64, 88) && side.driver.size() == 4);
-    assert!(rt; side.mem.len() == 8_352 && side.mem.as_slice().iter().all(|b| *b == 0));
+    assert!(rt; side.driver.part() == 100);
+    assert!(rt; side.mem.len() == 328 && side.mem.as_slice().iter().all(|b| *b == 0));
     side.is_at(&rt, 0, 0, None);
     side.offer(&rt, b"abc", 7);
     check_places(&rt, alloc, &side.mem, &OFFERED)?;
@@ -163,7 +164,8 @@ struct Both {
     mem: GuestMem,
     driver: DriverRing,
     ring: Ring,
-    ghost driver_fits: { length mem ≡ (driver_layout driver.size).memory },
+    ghost driver_fits: { length mem ≡ (driver_layout driver.size driver.part).memory },
+    ghost part_is: { driver.part ≡ 100 },
     ghost ring_fits: { length mem ≡ ring.layout.memory },
 }
 
@@ -171,7 +173,7 @@ impl Both {
     fn new(rt: &impl Abort, alloc: Global, size: u16) -> Result<Both, Fail>
         requires { IsQueueSize size }
     {
-        let (driver, mem) = DriverRing::new(alloc, size)?;
+        let (driver, mem) = DriverRing::new(alloc, size, 100)?;
         let (desc, avail, used) = driver.device();
         match Ring::new(size, 0, desc, avail, used, &mem) {
             Some(ring) => Ok(Both { mem, driver, ring }),
