@@ -1,5 +1,4 @@
-ghost use Rattle.std.specs.Prelude.{◌≡◌, ◌≤◌, length, IfOk};
-ghost use Rattle.plain_file.specs.Limits.{max_part};
+ghost use Rattle.std.specs.Prelude.{◌≡◌, length};
 ghost use Rattle.vring.specs.Driver.{driver_layout, IsQueueSize};
 
 use super::*;
