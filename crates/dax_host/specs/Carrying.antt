@@ -33,7 +33,7 @@ pub record IsGivenUp (old : Host) (sent : Sent) (new : Host) : Type 0 where
 
 -- the queue that is there doesn't take the request, and nothing has changed
 pub record IsUnsent (old : Host) (sent : Sent) (new : Host) : Type 0 where
-  pub small : takes old.queue.driver.size (length sent.bytes) sent.room ≡ false
+  pub small : takes old.queue.driver.part (length sent.bytes) sent.room ≡ false
   pub same : new ≡ old
 
 -- What comes of a request: its answer is brought back. For want of memory it wasn't sent, as it wanted a larger queue, or it was given up, or its answer reached the driver and wasn't copied.

@@ -108,7 +108,7 @@ impl Sides {
         ensures len { OnOk result (len ≤ self.new.driver.part) }
         ensures room { OnOk result (room ≤ self.new.driver.part) }
         ensures err { OnErr result (self.new ≡ self.old) }
-        ensures small { OnErr result (takes self.old.driver.size len room ≡ false) }
+        ensures small { OnErr result (takes self.old.driver.part len room ≡ false) }
         ensures idle { IsIdle self.new }
     {
         if takes(self.driver.part(), len, room) {

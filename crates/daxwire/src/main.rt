@@ -32,8 +32,8 @@ mod stream_tests;
 #[cfg(test)]
 mod tables;
 
-use program_io::{Status, StdSink, StdSource, command_words};
 use plain_file::Memory;
+use program_io::{Status, StdSink, StdSource, command_words};
 use std::env;
 use std::process::ExitCode;
 

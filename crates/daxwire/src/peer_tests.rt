@@ -2,8 +2,8 @@ ghost use Rattle.std.specs.Prelude.{None};
 
 use crate::runs::run_wire;
 use crate::tables::{put_hex, words_of};
-use program_io::{Failed, Sink, Source, Status, SureSink, SureSource};
 use plain_file::{Blob, List};
+use program_io::{Failed, Sink, Source, Status, SureSink, SureSource};
 use std::cell::Cell;
 use std::test::Fail;
 

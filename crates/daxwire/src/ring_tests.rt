@@ -1,7 +1,7 @@
 use crate::ring_table::RING;
 use crate::tables::{SURE, put_hex, ran, run_table};
-use program_io::Status;
 use plain_file::List;
+use program_io::Status;
 use std::test::Fail;
 
 #[test]

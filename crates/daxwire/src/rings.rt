@@ -12,8 +12,8 @@ ghost use Rattle.daxwire.specs.RingText.{all_served, left_by, image_due, ring_te
 use crate::ring_lines::{put_chain_lines, put_digest, put_fault};
 use crate::shows::put;
 use dax_device::{QueueDevice, Turn, open_image};
-use program_io::{ReadError, Sink, Source, Status, read_all, write_all};
 use plain_file::{Blob, Memory};
+use program_io::{ReadError, Sink, Source, Status, read_all, write_all};
 use std::alloc::Global;
 use vring::{Chain, RingFault};
 

@@ -1,8 +1,8 @@
 use crate::serve_table::SERVE;
 use crate::show_table::SHOW;
 use crate::tables::{Ends, SURE, put_hex, ran, run_table};
-use program_io::Status;
 use plain_file::{Blob, List};
+use program_io::Status;
 use std::alloc::Global;
 use std::process::Abort;
 use std::test::Fail;

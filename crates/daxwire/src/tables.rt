@@ -1,8 +1,8 @@
 ghost use Rattle.std.specs.Prelude.{◌<◌};
 
 use crate::runs::run_wire;
-use program_io::{MemSink, MemSource, Status, Word};
 use plain_file::{Blob, List, Memory};
+use program_io::{MemSink, MemSource, Status, Word};
 use std::alloc::Global;
 use std::process::Abort;
 use std::test::Fail;
