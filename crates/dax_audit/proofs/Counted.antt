@@ -1,12 +1,12 @@
 -- A transcript's text has as many lines as the transcript has items.
 use Rattle.std.proofs.Common.{◌≡◌, ap, refl, ℕ, suc, ◌+◌, List, [], ◌∷◌, ◌++◌, map, length, length-append, codes, arith}
 use Rattle.std.specs.List.{flat_map}
-use Rattle.dax_audit.specs.declared.transcripts.FilePart.{FilePart}
-use Rattle.dax_audit.specs.declared.transcripts.GuestPart.{GuestPart}
-use Rattle.dax_audit.specs.declared.transcripts.Transcript.{Transcript}
+use Rattle.transcript_text.specs.declared.transcripts.FilePart.{FilePart}
+use Rattle.transcript_text.specs.declared.transcripts.GuestPart.{GuestPart}
+use Rattle.transcript_text.specs.declared.transcripts.Transcript.{Transcript}
 use Rattle.dax_audit.specs.Items.{parts_from, file_items, guest_items, items}
 use Rattle.dax_audit.proofs.Places.{file_length, guest_length, whole_length}
-use Rattle.dax_audit.specs.TranscriptText.{entry_words, log_words, numbered_words, file_lines, guest_lines, transcript_lines}
+use Rattle.transcript_text.specs.TranscriptText.{entry_words, log_words, numbered_words, file_lines, guest_lines, transcript_lines}
 
 map_length : {X Y : Type 0} (v : X → Y) (xs : List X) → length (map v xs) ≡ length xs
 map_length v [] = refl

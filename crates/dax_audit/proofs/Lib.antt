@@ -1,6 +1,3 @@
-pub mod PrintedWords
-pub mod CleanLines
-pub mod ReadAgain
 pub mod Places
 pub mod Counted
 pub mod Lines

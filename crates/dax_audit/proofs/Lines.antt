@@ -5,12 +5,12 @@ use Rattle.std.proofs.lemmas.Option.{none-some}
 use Rattle.std.specs.List.{AllByRecursion, position_from}
 use Rattle.page_map.specs.declared.ranges.LogEntry.{LogEntry}
 use Rattle.plain_text.specs.Options.{◌>>=◌}
-use Rattle.dax_audit.specs.declared.transcripts.EntryLine.{EntryLine}
-use Rattle.dax_audit.specs.declared.transcripts.FilePart.{FilePart}
-use Rattle.dax_audit.specs.declared.transcripts.GuestPart.{GuestPart}
-use Rattle.dax_audit.specs.declared.transcripts.Line.{Line}
-use Rattle.dax_audit.specs.declared.transcripts.Numbered.{Numbered}
-use Rattle.dax_audit.specs.declared.transcripts.Transcript.{Transcript}
+use Rattle.transcript_text.specs.declared.transcripts.EntryLine.{EntryLine}
+use Rattle.transcript_text.specs.declared.transcripts.FilePart.{FilePart}
+use Rattle.transcript_text.specs.declared.transcripts.GuestPart.{GuestPart}
+use Rattle.transcript_text.specs.declared.transcripts.Line.{Line}
+use Rattle.transcript_text.specs.declared.transcripts.Numbered.{Numbered}
+use Rattle.transcript_text.specs.declared.transcripts.Transcript.{Transcript}
 use Rattle.dax_audit.specs.Items.{Item, Head, Ranges, File, Entry, Log, Guest, Call, End, each_from, parts_from, file_items, guest_items, items}
 use Rattle.dax_audit.specs.Guests.{line_in}
 use Rattle.dax_audit.specs.Rules.{line_at, entry_at}

@@ -7,8 +7,8 @@ use Rattle.dax_script.specs.declared.scripts.Call.{Call}
 use Rattle.dax_script.specs.declared.scripts.Call.TheVariants as calls
 use Rattle.dax_script.specs.declared.asks.Target.{Target}
 use Rattle.dax_script.specs.Asks.{target, hold_in}
-use Rattle.dax_audit.specs.declared.transcripts.Line.{Line}
-use Rattle.dax_audit.specs.declared.transcripts.Numbered.{Numbered}
+use Rattle.transcript_text.specs.declared.transcripts.Line.{Line}
+use Rattle.transcript_text.specs.declared.transcripts.Numbered.{Numbered}
 use Rattle.dax_audit.specs.Guests.{place_of, is_file, place_on, places_on, after_places, seen_before, is_released, is_release, releases, is_given_up, seen_at, given_at, seen_now, given_now, noted, given_back}
 use Rattle.dax_audit.proofs.Singles.{zip_some}
 

@@ -2,9 +2,9 @@
 use Rattle.std.proofs.Common.{◌≡◌, ◌∙◌, ap, sym, refl, ℕ, zero, suc, ◌+◌, ◌<◌, Bool, true, false, if◌then◌else◌, List, [], ◌∷◌, ◌++◌, length, drop, get_or, Option, Some, None, length-append, inl, inr, arith}
 use Rattle.std.proofs.lemmas.Bool.{cases_Bool}
 use Rattle.std.specs.List.{position_from}
-use Rattle.dax_audit.specs.declared.transcripts.FilePart.{FilePart}
-use Rattle.dax_audit.specs.declared.transcripts.GuestPart.{GuestPart}
-use Rattle.dax_audit.specs.declared.transcripts.Transcript.{Transcript}
+use Rattle.transcript_text.specs.declared.transcripts.FilePart.{FilePart}
+use Rattle.transcript_text.specs.declared.transcripts.GuestPart.{GuestPart}
+use Rattle.transcript_text.specs.declared.transcripts.Transcript.{Transcript}
 use Rattle.dax_audit.specs.Items.{Item, Head, Ranges, File, Entry, Log, Call, End, items, each_from, parts_from, file_items, guest_items}
 
 pub drop_cons_at : {X : Type 0} (xs : List X) (i : ℕ) (x : X) → i < length xs → x ≡ get_or xs i x → drop i xs ≡ x ∷ drop (i + 1) xs

@@ -9,10 +9,10 @@ use Rattle.dax_script.specs.declared.scripts.Script.{Script}
 use Rattle.dax_script.specs.declared.asks.Target.{Target}
 use Rattle.plain_text.specs.Options.{◌>>=◌}
 use Rattle.dax_script.specs.Asks.{target, hold_places, calls_of}
-use Rattle.dax_audit.specs.declared.transcripts.EntryLine.{EntryLine}
-use Rattle.dax_audit.specs.declared.transcripts.FilePart.{FilePart}
-use Rattle.dax_audit.specs.declared.transcripts.Numbered.{Numbered}
-use Rattle.dax_audit.specs.declared.transcripts.Transcript.{Transcript}
+use Rattle.transcript_text.specs.declared.transcripts.EntryLine.{EntryLine}
+use Rattle.transcript_text.specs.declared.transcripts.FilePart.{FilePart}
+use Rattle.transcript_text.specs.declared.transcripts.Numbered.{Numbered}
+use Rattle.transcript_text.specs.declared.transcripts.Transcript.{Transcript}
 use Rattle.dax_audit.specs.Guests.{place_of, is_file, place_on, done_by}
 use Rattle.dax_audit.specs.Rules.{is_at, is_done_at, past_of, pasts, past_at, entry_at, entry_in, names, names_line, has_entry}
 use Rattle.dax_audit.specs.Tables.{AreHolds}

@@ -7,11 +7,11 @@ use Rattle.plain_file.specs.File.{after, first_bytes}
 use Rattle.plain_file.specs.History.{after_all, bytes, size}
 use Rattle.dax_script.specs.declared.scripts.Script.{Script}
 use Rattle.dax_audit.specs.declared.replays.Replay.{Replay}
-use Rattle.dax_audit.specs.declared.transcripts.EntryLine.{EntryLine}
-use Rattle.dax_audit.specs.declared.transcripts.FilePart.{FilePart}
-use Rattle.dax_audit.specs.declared.transcripts.Line.{Line}
-use Rattle.dax_audit.specs.declared.transcripts.Line.TheVariants as lines
-use Rattle.dax_audit.specs.declared.transcripts.Transcript.{Transcript}
+use Rattle.transcript_text.specs.declared.transcripts.EntryLine.{EntryLine}
+use Rattle.transcript_text.specs.declared.transcripts.FilePart.{FilePart}
+use Rattle.transcript_text.specs.declared.transcripts.Line.{Line}
+use Rattle.transcript_text.specs.declared.transcripts.Line.TheVariants as lines
+use Rattle.transcript_text.specs.declared.transcripts.Transcript.{Transcript}
 use Rattle.dax_audit.specs.Rules.{entry_in, op_in, past_of, pasts, past_at, line_at, entry_at, names_line, has_entry, replies_at, replies, replies_right}
 use Rattle.dax_audit.specs.Guests.{place_of}
 use Rattle.dax_script.specs.declared.scripts.Call.{Call}

@@ -18,12 +18,12 @@ use Rattle.dax_script.specs.Asks.{chunk_size, target, whole_file, held_of, hold_
 use Rattle.plain_file.specs.File.{max_file}
 use Rattle.dax_audit.specs.declared.looks.Look.{Look}
 use Rattle.dax_audit.specs.declared.replays.Replay.{Replay}
-use Rattle.dax_audit.specs.declared.transcripts.FilePart.{FilePart}
-use Rattle.dax_audit.specs.declared.transcripts.Grant.{Grant}
-use Rattle.dax_audit.specs.declared.transcripts.Line.{Line}
-use Rattle.dax_audit.specs.declared.transcripts.Line.TheVariants as lines
-use Rattle.dax_audit.specs.declared.transcripts.Numbered.{Numbered}
-use Rattle.dax_audit.specs.declared.transcripts.Transcript.{Transcript}
+use Rattle.transcript_text.specs.declared.transcripts.FilePart.{FilePart}
+use Rattle.dax_audit.specs.declared.verdicts.Grant.{Grant}
+use Rattle.transcript_text.specs.declared.transcripts.Line.{Line}
+use Rattle.transcript_text.specs.declared.transcripts.Line.TheVariants as lines
+use Rattle.transcript_text.specs.declared.transcripts.Numbered.{Numbered}
+use Rattle.transcript_text.specs.declared.transcripts.Transcript.{Transcript}
 use Rattle.dax_audit.specs.Guests.{place_on, places_on, first_place, next_place, seen_before, is_given_up, given_at}
 use Rattle.dax_audit.specs.Rules.{Past, past_of, pasts, past_at, no_past, lines_of, line_at, is_end, grants, grant_for, access_end, tells, tells_at}
 use Rattle.dax_audit.specs.Tables.{AreReplays, AreLooks, sizes_in, seen_in, given_in, log_in, no_log, had_by, tells_by, end_in, granted_line, end_of, deed_from, StaysWithin}

@@ -14,10 +14,10 @@ use Rattle.dax_script.specs.declared.asks.Target.{Target}
 use Rattle.dax_script.specs.Asks.{target, calls_of, call_at}
 use Rattle.dax_audit.specs.declared.looks.Look.{Look}
 use Rattle.dax_audit.specs.declared.replays.Replay.{Replay}
-use Rattle.dax_audit.specs.declared.transcripts.EntryLine.{EntryLine}
-use Rattle.dax_audit.specs.declared.transcripts.Line.{Line}
-use Rattle.dax_audit.specs.declared.transcripts.Numbered.{Numbered}
-use Rattle.dax_audit.specs.declared.transcripts.Transcript.{Transcript}
+use Rattle.transcript_text.specs.declared.transcripts.EntryLine.{EntryLine}
+use Rattle.transcript_text.specs.declared.transcripts.Line.{Line}
+use Rattle.transcript_text.specs.declared.transcripts.Numbered.{Numbered}
+use Rattle.transcript_text.specs.declared.transcripts.Transcript.{Transcript}
 use Rattle.dax_audit.specs.Guests.{place_of, seen_before, seen_at, done_by}
 use Rattle.dax_audit.specs.Rules.{Past, pasts, past_at, lines_of, line_at, entry_at, is_done_at, is_fresh, write_way, windowed, came_right, is_req, rises, rises_at}
 use Rattle.dax_audit.specs.Tables.{AreReplays, AreLooks, AreNamed, sizes_in, seen_in, fresh_in, write_by, windowed_by, log_in}

@@ -6,10 +6,10 @@ use Rattle.dax_script.specs.declared.scripts.Call.TheVariants as calls
 use Rattle.plain_text.specs.Options.{◌>>=◌}
 use Rattle.dax_script.specs.Asks.{target, place_of_hold, hold_in}
 use Rattle.dax_script.specs.declared.asks.Target.{Target}
-use Rattle.dax_audit.specs.declared.transcripts.Line.{Line}
-use Rattle.dax_audit.specs.declared.transcripts.Line.TheVariants as lines
-use Rattle.dax_audit.specs.declared.transcripts.Grant.{Grant}
-use Rattle.dax_audit.specs.declared.transcripts.Numbered.{Numbered}
+use Rattle.transcript_text.specs.declared.transcripts.Line.{Line}
+use Rattle.transcript_text.specs.declared.transcripts.Line.TheVariants as lines
+use Rattle.dax_audit.specs.declared.verdicts.Grant.{Grant}
+use Rattle.transcript_text.specs.declared.transcripts.Numbered.{Numbered}
 
 -- the place and the answer of a line that is done
 unfoldable pub place_of : Line → Option ℕ

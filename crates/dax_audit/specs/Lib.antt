@@ -5,5 +5,3 @@ pub mod Legal
 pub mod Rows
 pub mod Found
 pub mod Tables
-pub mod TranscriptText
-pub mod TranscriptReading

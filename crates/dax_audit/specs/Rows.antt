@@ -1,6 +1,6 @@
 -- The lines of a transcript's text as the code meets them on its way.
 use Rattle.std.specs.Prelude.{◌≡◌, ⊤, slice_get, Some}
-use Rattle.dax_audit.specs.declared.transcripts.Transcript.{Transcript}
+use Rattle.transcript_text.specs.declared.transcripts.Transcript.{Transcript}
 use Rattle.dax_audit.specs.declared.walks.Row.{Row}
 use Rattle.dax_audit.specs.declared.walks.Row.TheVariants as rows
 use Rattle.dax_audit.specs.Items.{Item, Head, Ranges, File, Entry, Log, Guest, Call, End}

@@ -23,13 +23,13 @@ use Rattle.plain_text.specs.Options.{◌>>=◌}
 use Rattle.dax_script.specs.Asks.{chunk_size, held_of, is_hold, held_by, target, op_of, calls_of, call_at, hold_in}
 use Rattle.dax_script.specs.declared.asks.Held.{Held}
 use Rattle.dax_script.specs.declared.asks.Target.{Target}
-use Rattle.dax_audit.specs.declared.transcripts.EntryLine.{EntryLine}
-use Rattle.dax_audit.specs.declared.transcripts.FilePart.{FilePart}
-use Rattle.dax_audit.specs.declared.transcripts.Line.{Line}
-use Rattle.dax_audit.specs.declared.transcripts.Line.TheVariants as lines
-use Rattle.dax_audit.specs.declared.transcripts.Grant.{Grant}
-use Rattle.dax_audit.specs.declared.transcripts.Numbered.{Numbered}
-use Rattle.dax_audit.specs.declared.transcripts.Transcript.{Transcript}
+use Rattle.transcript_text.specs.declared.transcripts.EntryLine.{EntryLine}
+use Rattle.transcript_text.specs.declared.transcripts.FilePart.{FilePart}
+use Rattle.transcript_text.specs.declared.transcripts.Line.{Line}
+use Rattle.transcript_text.specs.declared.transcripts.Line.TheVariants as lines
+use Rattle.dax_audit.specs.declared.verdicts.Grant.{Grant}
+use Rattle.transcript_text.specs.declared.transcripts.Numbered.{Numbered}
+use Rattle.transcript_text.specs.declared.transcripts.Transcript.{Transcript}
 use Rattle.dax_audit.specs.Items.{Item, Head, Ranges, File, Entry as entry_item, Log, Guest, Call as call_item, End}
 use Rattle.dax_audit.specs.Guests.{place_of, line_in, places_on, seen_before, next_place, grant_in, had_grant}
 

@@ -9,24 +9,24 @@ use Rattle.dax_script.specs.declared.scripts.Script.{Script}
 use Rattle.plain_text.specs.Options.{◌>>=◌}
 use Rattle.dax_script.specs.Asks.{chunk_size, calls_of, call_at, op_of, held_by, held_of, target, hold_in, hold_places}
 use Rattle.dax_script.specs.declared.scripts.FileLine.{FileLine}
-use Rattle.dax_audit.specs.declared.transcripts.Verdict.{Verdict}
-use Rattle.dax_audit.specs.declared.transcripts.Verdict.TheVariants as verdicts
+use Rattle.dax_audit.specs.declared.verdicts.Verdict.{Verdict}
+use Rattle.dax_audit.specs.declared.verdicts.Verdict.TheVariants as verdicts
 use Rattle.dax_audit.specs.Legal.{Fault}
 use Rattle.dax_script.specs.declared.scripts.Call.TheVariants as calls
 use Rattle.dax_audit.specs.declared.replays.Deed.{Deed}
 use Rattle.dax_audit.specs.declared.replays.Deed.TheVariants as deeds
 use Rattle.dax_audit.specs.declared.replays.Replay.{Replay}
-use Rattle.dax_audit.specs.declared.transcripts.EntryLine.{EntryLine}
-use Rattle.dax_audit.specs.declared.transcripts.Line.{Line}
-use Rattle.dax_audit.specs.declared.transcripts.Line.TheVariants as lines
-use Rattle.dax_audit.specs.declared.transcripts.Transcript.{Transcript}
+use Rattle.transcript_text.specs.declared.transcripts.EntryLine.{EntryLine}
+use Rattle.transcript_text.specs.declared.transcripts.Line.{Line}
+use Rattle.transcript_text.specs.declared.transcripts.Line.TheVariants as lines
+use Rattle.transcript_text.specs.declared.transcripts.Transcript.{Transcript}
 use Rattle.dax_audit.specs.Rules.{op_in, line_at, entry_at, same_answer, has_entry_at, is_named, covers, chunks, pairs_of, is_req, hold_way, is_within, is_past, Past, grants}
 use Rattle.dax_audit.specs.Guests.{seen_at, given_at, grant_in}
 use Rattle.dax_audit.specs.declared.looks.Look.{Look}
-use Rattle.dax_audit.specs.declared.transcripts.FilePart.{FilePart}
-use Rattle.dax_audit.specs.declared.transcripts.GuestPart.{GuestPart}
-use Rattle.dax_audit.specs.declared.transcripts.Grant.{Grant}
-use Rattle.dax_audit.specs.declared.transcripts.Numbered.{Numbered}
+use Rattle.transcript_text.specs.declared.transcripts.FilePart.{FilePart}
+use Rattle.transcript_text.specs.declared.transcripts.GuestPart.{GuestPart}
+use Rattle.dax_audit.specs.declared.verdicts.Grant.{Grant}
+use Rattle.transcript_text.specs.declared.transcripts.Numbered.{Numbered}
 use Rattle.page_map.specs.declared.ranges.LogEntry.{LogEntry}
 use Rattle.plain_file.specs.declared.operations.Through.{Through}
 use Rattle.plain_file.specs.declared.operations.Way.{Way}

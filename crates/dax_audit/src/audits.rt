@@ -3,7 +3,7 @@ ghost use Rattle.std.specs.List.{position_from};
 ghost use Rattle.plain_file.specs.File.{max_file};
 ghost use Rattle.range_tree.specs.Logs.{unsound_at};
 ghost use Rattle.dax_script.specs.Asks.{hold_places, calls_of};
-ghost use Rattle.dax_audit.specs.declared.transcripts.FilePart.{FilePart};
+ghost use Rattle.transcript_text.specs.declared.transcripts.FilePart.{FilePart};
 ghost use Rattle.dax_audit.specs.Items.{items};
 ghost use Rattle.dax_audit.specs.Rules.{breaks_files, breaks_guests, breaks_forms, breaks_entries, breaks_order, breaks_replies, breaks_ways, breaks_tales, breaks_logs};
 ghost use Rattle.dax_audit.specs.Tables.{AreHolds};
@@ -17,12 +17,13 @@ use crate::replays::{Replay, carry_out};
 use crate::rules::{Entries, guest_calls, guest_holds};
 use crate::tales::Tales;
 use crate::tests_of::{OnCalls, OnEntries};
-use crate::transcripts::{Transcript, Verdict};
+use crate::verdicts::Verdict;
 use crate::walks::first_broken;
 use crate::ways::Ways;
 use dax_script::{Script, hold_places};
 use plain_file::Memory;
 use std::alloc::Global;
+use transcript_text::Transcript;
 
 fn all_holds(alloc: Global, script: &Script) -> Result<Vec<Vec<usize>>, Memory>
     ensures { IfOk result (λ v. AreHolds script.now v.items) }

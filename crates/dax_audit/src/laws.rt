@@ -1,21 +1,14 @@
-ghost use Rattle.std.specs.Prelude.{◌≡◌, ◌↔◌, None, Ok, length};
+ghost use Rattle.std.specs.Prelude.{◌≡◌, ◌↔◌, None, length};
 ghost use Rattle.dax_script.specs.declared.scripts.Script.{Script};
-ghost use Rattle.dax_audit.specs.declared.transcripts.Transcript.{Transcript};
+ghost use Rattle.transcript_text.specs.declared.transcripts.Transcript.{Transcript};
+ghost use Rattle.transcript_text.specs.TranscriptText.{transcript_lines};
 ghost use Rattle.dax_audit.specs.Items.{items};
 ghost use Rattle.dax_audit.specs.Legal.{IsLegal, fault};
-ghost use Rattle.dax_audit.specs.TranscriptText.{text_of, transcript_lines};
-ghost use Rattle.dax_audit.specs.TranscriptReading.{transcript_of, IsPrintable};
 
 /// A law of scripts and transcripts, which has nothing to run: a transcript is legal, rule by rule, exactly
 /// where it has no fault.
 pub fn legal_without_fault()
     ensures { (s : Script) (t : Transcript) → IsLegal s t ↔ (fault s t ≡ None) }
-{}
-
-/// A law of transcripts: the text of a transcript within the bounds of the form and of its fields' types is
-/// read as that transcript, so no two of them have the same text.
-pub fn text_determines_transcript()
-    ensures { (t : Transcript) → IsPrintable t → transcript_of (text_of t) ≡ Ok t }
 {}
 
 /// A law of transcripts: a transcript has an item for each line of its text, so that the place of an item

@@ -1,6 +1,6 @@
 ghost use Rattle.std.specs.Prelude.{◌≡◌, ℕ, true, Some};
 ghost use Rattle.dax_script.specs.Asks.{hold_places, target, calls_of, call_at};
-ghost use Rattle.dax_audit.specs.declared.transcripts.Line.{Line};
+ghost use Rattle.transcript_text.specs.declared.transcripts.Line.{Line};
 ghost use Rattle.dax_audit.specs.Guests.{place_of};
 ghost use Rattle.dax_audit.specs.Rules.{fits, answers_call, lines_of, line_at};
 ghost use Rattle.dax_audit.specs.Tables.{right_in};
@@ -11,9 +11,9 @@ use crate::picks::pick;
 use crate::replays::Replay;
 use crate::rules::{guest_calls, guest_holds};
 use crate::tests_of::CallTest;
-use crate::transcripts::{Line, Transcript};
 use dax_script::{Call, Script, target_of};
 use plain_file::Answer;
+use transcript_text::{Line, Transcript};
 
 #[tactic(auto, unfolding(crate::specs::Rules::answers_call, crate::specs::Rules::is_reading, crate::specs::Rules::is_writing, crate::specs::Rules::is_sizing))]
 fn answers_call(call: &Call, answer: &Answer) -> bool

@@ -5,10 +5,10 @@ ghost use Rattle.dax_script.specs.declared.asks.Target.{Target};
 ghost use Rattle.dax_script.specs.Asks.{hold_places, target, hold_in};
 ghost use Rattle.dax_audit.specs.Guests.{seen_at, given_at, seen_now, given_now, noted, given_back, place_of, is_released, is_release, releases};
 
-use crate::transcripts::{Line, Numbered};
 use dax_script::{Call, Target, target_of};
 use plain_file::Memory;
 use std::alloc::Global;
+use transcript_text::{Line, Numbered};
 
 /// What was before each call of a guest: how much of its file's history the guest had seen, and
 /// whether its hold was given up.

@@ -5,12 +5,12 @@ ghost use Rattle.dax_audit.specs.Rules.{is_line_of_file, is_file_line, lacks_lin
 
 use crate::picks::pick;
 use crate::rules::{guest_calls, guest_lines};
-use crate::transcripts::{FilePart, Transcript};
 use crate::walks::{Judge, Row};
 use dax_script::{FileLine, Script};
 use plain_file::Memory;
 use range_tree::first_unsound;
 use std::alloc::Global;
+use transcript_text::{FilePart, Transcript};
 
 fn is_file_line(line: &FileLine, part: &FilePart) -> bool
     ensures { result ≡ is_file_line line.now part.now }

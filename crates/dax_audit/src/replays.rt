@@ -7,10 +7,10 @@ ghost use Rattle.dax_audit.specs.Tables.{op_of_deed, end_of, told, deed_from, St
 
 use crate::picks::pick;
 use crate::rules::{guest_calls, guest_holds, guest_lines};
-use crate::transcripts::{EntryLine, FilePart, Line, Transcript};
 use dax_script::{Call, Script, target_of};
 use plain_file::{Answer, Memory};
 use std::alloc::Global;
+use transcript_text::{EntryLine, FilePart, Line, Transcript};
 
 /// What a call does to its file.
 #[derive(Clone, Copy)]

@@ -1,14 +1,14 @@
 ghost use Rattle.std.specs.Prelude.{◌≡◌, ℕ, ◌<◌, true, not, length, map, slice_get, Some};
 ghost use Rattle.dax_script.specs.Asks.{hold_places, target, calls_of, call_at};
-ghost use Rattle.dax_audit.specs.declared.transcripts.Numbered.{Numbered};
+ghost use Rattle.transcript_text.specs.declared.transcripts.Numbered.{Numbered};
 ghost use Rattle.dax_audit.specs.Guests.{place_of, done_by};
 ghost use Rattle.dax_audit.specs.Rules.{lines_of, line_at, entry_at, is_done_at, names, past_at, pasts, has_entry, is_named, has_entry_at, breaks_entries, names_line};
 ghost use Rattle.dax_audit.specs.Tables.{AreHolds};
 
 use crate::picks::pick;
-use crate::transcripts::{EntryLine, Line, Numbered, Transcript};
 use crate::walks::{Judge, Row};
 use dax_script::{Call, Script, Target, target_of};
+use transcript_text::{EntryLine, Line, Numbered, Transcript};
 
 impl Line {
     /// The place of a call that is done.

@@ -13,11 +13,12 @@ use crate::picks::pick;
 use crate::replays::Replay;
 use crate::rules::{guest_calls, guest_holds, guest_lines};
 use crate::tests_of::CallTest;
-use crate::transcripts::{Grant, Line, Numbered, Transcript};
+use crate::verdicts::Grant;
 use crate::ways::{grant_in, log_of};
 use dax_script::{CHUNK, Call, Held, Script, Target, target_of};
 use page_map::Mode;
 use plain_file::Through;
+use transcript_text::{Line, Numbered, Transcript};
 
 // What a guest has of the hold that a call uses.
 #[tactic(auto, unfolding(crate::specs::Tables::had_by))]

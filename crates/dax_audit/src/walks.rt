@@ -1,16 +1,16 @@
 ghost use Rattle.std.specs.Prelude.{◌≡◌, ◌+◌, ◌<◌, ◌≤◌, ◌^◌, ℕ, false, length, slice_get, Some, IfOk};
 ghost use Rattle.std.specs.List.{position_from};
-ghost use Rattle.dax_audit.specs.declared.transcripts.EntryLine.{EntryLine};
-ghost use Rattle.dax_audit.specs.declared.transcripts.FilePart.{FilePart};
-ghost use Rattle.dax_audit.specs.declared.transcripts.GuestPart.{GuestPart};
-ghost use Rattle.dax_audit.specs.declared.transcripts.Numbered.{Numbered};
+ghost use Rattle.transcript_text.specs.declared.transcripts.EntryLine.{EntryLine};
+ghost use Rattle.transcript_text.specs.declared.transcripts.FilePart.{FilePart};
+ghost use Rattle.transcript_text.specs.declared.transcripts.GuestPart.{GuestPart};
+ghost use Rattle.transcript_text.specs.declared.transcripts.Numbered.{Numbered};
 ghost use Rattle.dax_audit.specs.Items.{Entry, Log, Call, each_from, parts_from, file_items, guest_items, items};
 ghost use Rattle.dax_audit.specs.Rows.{item_of, StandsIn};
 ghost use Rattle.dax_audit.specs.Found.{found_in};
 ghost use Rattle.dax_audit.specs.Rules.{entry_at, lines_of};
 
-use crate::transcripts::{EntryLine, FilePart, GuestPart, Numbered, Transcript};
 use range_tree::LogEntry;
+use transcript_text::{EntryLine, FilePart, GuestPart, Numbered, Transcript};
 
 /// A line of a transcript, with its places.
 #[derive(Clone, Copy)]
@@ -55,7 +55,7 @@ pub enum Row<'a> {
 /// rule's tables have to be.
 pub trait Judge {
     ghost use Rattle.std.specs.Prelude.{Bool};
-    ghost use Rattle.dax_audit.specs.declared.transcripts.Transcript.{Transcript};
+    ghost use Rattle.transcript_text.specs.declared.transcripts.Transcript.{Transcript};
     ghost use Rattle.dax_audit.specs.Items.{Item};
 
     ghost of: { Self → Transcript };

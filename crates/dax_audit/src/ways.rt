@@ -12,10 +12,11 @@ use crate::picks::pick;
 use crate::replays::Replay;
 use crate::rules::{guest_calls, guest_holds, guest_lines};
 use crate::tests_of::EntryTest;
-use crate::transcripts::{EntryLine, Grant, Line, Numbered, Transcript};
+use crate::verdicts::Grant;
 use dax_script::{CHUNK, Call, Held, Script, held_by};
 use plain_file::{Through, Way};
 use range_tree::LogEntry;
+use transcript_text::{EntryLine, Line, Numbered, Transcript};
 
 impl Line {
     /// What a granted hold has.

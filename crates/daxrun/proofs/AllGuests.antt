@@ -19,13 +19,13 @@ use Rattle.dax_script.specs.declared.scripts.Script.{Script}
 use Rattle.dax_script.specs.declared.asks.Target.{Target}
 use Rattle.plain_text.specs.Options.{◌>>=◌}
 use Rattle.dax_script.specs.Asks.{whole_file, target, op_from, op_of, calls_of, call_at, hold_in}
-use Rattle.dax_audit.specs.declared.transcripts.EntryLine.{EntryLine}
-use Rattle.dax_audit.specs.declared.transcripts.FilePart.{FilePart}
-use Rattle.dax_audit.specs.declared.transcripts.GuestPart.{GuestPart}
-use Rattle.dax_audit.specs.declared.transcripts.Line.{Line}
-use Rattle.dax_audit.specs.declared.transcripts.Line.TheVariants as lines
-use Rattle.dax_audit.specs.declared.transcripts.Numbered.{Numbered}
-use Rattle.dax_audit.specs.declared.transcripts.Transcript.{Transcript}
+use Rattle.transcript_text.specs.declared.transcripts.EntryLine.{EntryLine}
+use Rattle.transcript_text.specs.declared.transcripts.FilePart.{FilePart}
+use Rattle.transcript_text.specs.declared.transcripts.GuestPart.{GuestPart}
+use Rattle.transcript_text.specs.declared.transcripts.Line.{Line}
+use Rattle.transcript_text.specs.declared.transcripts.Line.TheVariants as lines
+use Rattle.transcript_text.specs.declared.transcripts.Numbered.{Numbered}
+use Rattle.transcript_text.specs.declared.transcripts.Transcript.{Transcript}
 use Rattle.dax_audit.specs.Guests.{place_of, is_file, place_on, places_on, after_places, seen_before}
 use Rattle.dax_audit.specs.Rules.{Past, no_past, op_in, entry_in, past_of, pasts, past_at, lines_of, line_at, entry_at, answers_call, is_reading, is_writing, is_sizing, fits, fits_at, names, has_entry, has_entry_at, is_at, is_done_at, is_named, rises, rises_at, same_answer, replies, replies_right, tells, tells_at, is_req, way_fits, came_right, judged, is_answer, is_within, grant_for, access_end}
 use Rattle.dax_audit.specs.Legal.{file_line, IsLegal}

@@ -19,8 +19,8 @@ use Rattle.guest_wire.specs.declared.driver.FileRef.{FileRef}
 use Rattle.guest_wire.specs.Wires.{WireView, boards}
 use Rattle.dax_script.specs.declared.scripts.Call.{Call}
 use Rattle.dax_script.specs.declared.scripts.Call.TheVariants as calls
-use Rattle.dax_audit.specs.declared.transcripts.Line.TheVariants as lines
-use Rattle.dax_audit.specs.declared.transcripts.Numbered.{Numbered}
+use Rattle.transcript_text.specs.declared.transcripts.Line.TheVariants as lines
+use Rattle.transcript_text.specs.declared.transcripts.Numbered.{Numbered}
 use Rattle.daxrun.specs.Carried.{file_of, op_of, IsCall}
 use Rattle.daxrun.specs.Guest.{asked, on_file, the_entry, IsRunFrom}
 use Rattle.daxrun.specs.Requests.{IsLive}

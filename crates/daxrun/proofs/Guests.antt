@@ -9,8 +9,8 @@ use Rattle.plain_file.specs.declared.operations.First.{First}
 use Rattle.plain_file.specs.File.{answer, first_bytes}
 use Rattle.plain_file.specs.History.{after_all, bytes}
 use Rattle.dax_script.specs.declared.scripts.Call.{Call}
-use Rattle.dax_audit.specs.declared.transcripts.Line.TheVariants as lines
-use Rattle.dax_audit.specs.declared.transcripts.Numbered.{Numbered}
+use Rattle.transcript_text.specs.declared.transcripts.Line.TheVariants as lines
+use Rattle.transcript_text.specs.declared.transcripts.Numbered.{Numbered}
 use Rattle.dax_audit.specs.Guests.{place_of}
 use Rattle.daxrun.specs.Guest.{Asked, on_file, asked, the_entry, IsDone, IsOf, IsPlaced, IsRunFrom, GoesOn}
 use Rattle.daxrun.proofs.Places.{none_is, some_is, at_end, last_at, within, front, in_front, take_front}

@@ -14,9 +14,9 @@ use Rattle.fuse_device.proofs.Servable.{servable_at_start}
 use Rattle.dax_script.specs.declared.scripts.Call.{Call}
 use Rattle.dax_script.specs.declared.scripts.FileLine.{FileLine}
 use Rattle.dax_script.specs.declared.scripts.Script.{Script}
-use Rattle.dax_audit.specs.declared.transcripts.FilePart.{FilePart}
-use Rattle.dax_audit.specs.declared.transcripts.GuestPart.{GuestPart}
-use Rattle.dax_audit.specs.declared.transcripts.Transcript.{Transcript}
+use Rattle.transcript_text.specs.declared.transcripts.FilePart.{FilePart}
+use Rattle.transcript_text.specs.declared.transcripts.GuestPart.{GuestPart}
+use Rattle.transcript_text.specs.declared.transcripts.Transcript.{Transcript}
 use Rattle.dax_audit.specs.Legal.{IsLegal}
 use Rattle.daxrun.specs.Carried.{names_of, file_of, op_of, IsPlayable}
 use Rattle.daxrun.specs.Guest.{Asked, part_of, parts_from, IsRunFrom, IsPart}

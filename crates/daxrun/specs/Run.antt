@@ -12,10 +12,10 @@ use Rattle.dax_script.specs.declared.whys.Why.{Why}
 use Rattle.dax_script.specs.declared.whys.Why.TheVariants as whys
 use Rattle.program_io.specs.Causes.{AppendsPart}
 use Rattle.dax_script.specs.ScriptText.{BadLine, script_of}
-use Rattle.dax_audit.specs.declared.transcripts.Transcript.{Transcript}
+use Rattle.transcript_text.specs.declared.transcripts.Transcript.{Transcript}
 use Rattle.dax_audit.specs.Legal.{IsLegal}
-use Rattle.dax_audit.specs.TranscriptText.{text_of}
-use Rattle.dax_audit.specs.TranscriptReading.{transcript_of}
+use Rattle.transcript_text.specs.TranscriptText.{text_of}
+use Rattle.transcript_text.specs.TranscriptReading.{transcript_of}
 use Rattle.daxrun.specs.Carried.{is_carried_out}
 
 -- the most bytes that are read

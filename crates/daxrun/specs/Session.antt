@@ -12,8 +12,8 @@ use Rattle.fuse_device.specs.OpenFiles.{HasOpenFile}
 use Rattle.guest_wire.specs.declared.driver.FileRef.{FileRef}
 use Rattle.guest_wire.specs.Wires.{WireView, Boards}
 use Rattle.dax_script.specs.declared.scripts.FileLine.{FileLine}
-use Rattle.dax_audit.specs.declared.transcripts.Line.TheVariants as lines
-use Rattle.dax_audit.specs.declared.transcripts.Numbered.{Numbered}
+use Rattle.transcript_text.specs.declared.transcripts.Line.TheVariants as lines
+use Rattle.transcript_text.specs.declared.transcripts.Numbered.{Numbered}
 use Rattle.daxrun.specs.Requests.{IsLive}
 
 -- a session over files of these names, of which so many were opened

@@ -6,14 +6,14 @@ ghost use Rattle.plain_file.specs.declared.operations.Way.TheVariants as ways;
 ghost use Rattle.plain_file.specs.Board.{file_at, bytes_now, size_of, marked, applied};
 ghost use Rattle.fuse_device.specs.OpenFiles.{HasOpenFile};
 ghost use Rattle.guest_wire.specs.Wires.{boards};
-ghost use Rattle.dax_audit.specs.TranscriptReading.{IsPrintableNumbered, IsPrintableAnswer};
+ghost use Rattle.transcript_text.specs.TranscriptReading.{IsPrintableNumbered, IsPrintableAnswer};
 ghost use Rattle.daxrun.specs.Carried.{file_of, op_of, IsCall, AreCalls, max_calls};
 ghost use Rattle.daxrun.specs.Guest.{IsRunFrom};
 ghost use Rattle.daxrun.specs.Requests.{IsLive};
 ghost use Rattle.daxrun.specs.Session.{IsOpened, IsOwn, AreOurs, first_at, history_at, done_line};
 
 use crate::requests::{read, size, write};
-use dax_audit::{Line, Numbered};
+use transcript_text::{Line, Numbered};
 use dax_script::Call;
 use guest_wire::{Driver, FileRef, Wire};
 use page_map::PageMap;
@@ -68,7 +68,7 @@ where
 }
 
 // One call, as the number of a line.
-#[tactic(auto, unfolding(dax_audit::specs::TranscriptReading::IsPrintableLine))]
+#[tactic(auto, unfolding(transcript_text::specs::TranscriptReading::IsPrintableLine))]
 fn make_call<R: Wait, W>(
     rt: &R,
     alloc: Global,
@@ -123,7 +123,7 @@ fn file_of(call: &Call) -> u32
 }
 
 // The request of a call: its answer is the plain file's.
-#[tactic(auto, unfolding(crate::specs::Carried::op_of, crate::specs::Carried::IsCall, plain_file::specs::File::answer, dax_audit::specs::TranscriptReading::IsPrintableAnswer))]
+#[tactic(auto, unfolding(crate::specs::Carried::op_of, crate::specs::Carried::IsCall, plain_file::specs::File::answer, transcript_text::specs::TranscriptReading::IsPrintableAnswer))]
 fn ask<R: Wait, W>(
     rt: &R,
     alloc: Global,

@@ -7,9 +7,9 @@ ghost use Rattle.fuse_device.specs.State.{new_state};
 ghost use Rattle.guest_wire.specs.Wires.{boards};
 ghost use Rattle.dax_script.specs.declared.scripts.Call.{Call};
 ghost use Rattle.dax_script.specs.ScriptWords.{is_script_name};
-ghost use Rattle.dax_audit.specs.declared.transcripts.GuestPart.{GuestPart};
+ghost use Rattle.transcript_text.specs.declared.transcripts.GuestPart.{GuestPart};
 ghost use Rattle.dax_audit.specs.Legal.{IsLegal};
-ghost use Rattle.dax_audit.specs.TranscriptReading.{IsPrintable, IsPrintableEntry, IsPrintableFile, IsPrintableGuest, IsPrintableWay};
+ghost use Rattle.transcript_text.specs.TranscriptReading.{IsPrintable, IsPrintableEntry, IsPrintableFile, IsPrintableGuest, IsPrintableWay};
 ghost use Rattle.daxrun.specs.Carried.{names_of, AreFiles, AreCalls, AreGuests, IsPlayable, max_calls};
 ghost use Rattle.daxrun.specs.Guest.{IsPart, entry_line, file_part, parts_from};
 ghost use Rattle.daxrun.specs.Requests.{IsLive};
@@ -17,7 +17,7 @@ ghost use Rattle.daxrun.specs.Session.{AreSmall, AreOurs, IsOwn, first_at, histo
 
 use crate::calls::make_calls;
 use crate::sessions::{board_of, start_session};
-use dax_audit::{EntryLine, FilePart, GuestPart, Transcript};
+use transcript_text::{EntryLine, FilePart, GuestPart, Transcript};
 use dax_script::{Call, FileLine, Script};
 use guest_wire::{Driver, Wire};
 use page_map::PageMap;
@@ -183,7 +183,7 @@ fn entry_line(guest: u32, call: u32, way: Way) -> EntryLine
 }
 
 // Does nothing. That is how a proof knows that its numbers are within their fields.
-#[tactic(auto, unfolding(dax_audit::specs::TranscriptReading::IsPrintableWay))]
+#[tactic(auto, unfolding(transcript_text::specs::TranscriptReading::IsPrintableWay))]
 fn sound(way: Way)
     ensures { IsPrintableWay way }
 {

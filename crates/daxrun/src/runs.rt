@@ -7,13 +7,13 @@ ghost use Rattle.program_io.specs.declared.statuses.Status.{Status};
 ghost use Rattle.dax_script.specs.declared.scripts.Script.{Script};
 ghost use Rattle.dax_script.specs.ScriptText.{BadLine, script_of};
 ghost use Rattle.dax_audit.specs.Legal.{IsLegal};
-ghost use Rattle.dax_audit.specs.TranscriptReading.{IsPrintable, transcript_of};
+ghost use Rattle.transcript_text.specs.TranscriptReading.{IsPrintable, transcript_of};
 ghost use Rattle.daxrun.specs.Carried.{is_carried_out, is_carried_call, IsPlayable};
 ghost use Rattle.daxrun.specs.Run.{limit, is_script_command, usage_line, refused_line, too_long_line, why_word, refusal, IsTextOf, IsAnswerTo, IsDue, due_status, IsExpected, IsUsageOrWriteFault, IsOkOrMemory, Answers};
 
 use crate::plays::play;
 use crate::sessions::daemon_of;
-use dax_audit::Transcript;
+use transcript_text::Transcript;
 use dax_host::SoloWire;
 use dax_script::{BadScript, Call, Script, Why, parse};
 use guest_wire::Driver;

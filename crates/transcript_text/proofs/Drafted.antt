@@ -1,11 +1,11 @@
 -- One line more of a draft.
 use Rattle.std.proofs.Common.{◌≡◌, ◌∙◌, ap, sym, refl, subst, List, [], ◌∷◌, ◌++◌, Option, Some, None, option_map}
-use Rattle.dax_audit.specs.declared.transcripts.EntryLine.{EntryLine}
-use Rattle.dax_audit.specs.declared.transcripts.FilePart.{FilePart}
-use Rattle.dax_audit.specs.declared.transcripts.GuestPart.{GuestPart}
-use Rattle.dax_audit.specs.declared.transcripts.Numbered.{Numbered}
+use Rattle.transcript_text.specs.declared.transcripts.EntryLine.{EntryLine}
+use Rattle.transcript_text.specs.declared.transcripts.FilePart.{FilePart}
+use Rattle.transcript_text.specs.declared.transcripts.GuestPart.{GuestPart}
+use Rattle.transcript_text.specs.declared.transcripts.Numbered.{Numbered}
 use Rattle.page_map.specs.declared.ranges.LogEntry.{LogEntry}
-use Rattle.dax_audit.specs.TranscriptReading.{Reading, Parts, onto_last, with_entry, with_log, with_line}
+use Rattle.transcript_text.specs.TranscriptReading.{Reading, Parts, onto_last, with_entry, with_log, with_line}
 use Rattle.transcript_text.specs.declared.drafts.Draft.{Draft}
 use Rattle.transcript_text.specs.Drafts.{listed, IsFirst, IsDraft, reading_of, entry_more, log_more, line_more}
 

@@ -1,3 +1,6 @@
+pub mod PrintedWords
+pub mod CleanLines
+pub mod ReadAgain
 pub mod Printed
 pub mod Drafted
 pub mod Named

@@ -1,11 +1,11 @@
 -- A line of a draft, by what its words tell.
 use Rattle.std.proofs.Common.{◌≡◌, refl, ℕ, List, [], ◌∷◌, Some, None}
 use Rattle.page_map.specs.declared.ranges.LogEntry.{LogEntry}
-use Rattle.dax_audit.specs.declared.transcripts.EntryLine.{EntryLine}
-use Rattle.dax_audit.specs.declared.transcripts.FilePart.{FilePart}
-use Rattle.dax_audit.specs.declared.transcripts.GuestPart.{GuestPart}
-use Rattle.dax_audit.specs.declared.transcripts.Numbered.{Numbered}
-use Rattle.dax_audit.specs.TranscriptReading.{Parts, file_of_words, entry_of_words, log_of_words, guest_of_words, numbered_of, file_read, entry_read, log_read, guest_read, call_read}
+use Rattle.transcript_text.specs.declared.transcripts.EntryLine.{EntryLine}
+use Rattle.transcript_text.specs.declared.transcripts.FilePart.{FilePart}
+use Rattle.transcript_text.specs.declared.transcripts.GuestPart.{GuestPart}
+use Rattle.transcript_text.specs.declared.transcripts.Numbered.{Numbered}
+use Rattle.transcript_text.specs.TranscriptReading.{Parts, file_of_words, entry_of_words, log_of_words, guest_of_words, numbered_of, file_read, entry_read, log_read, guest_read, call_read}
 use Rattle.transcript_text.specs.Drafts.{file_more, entry_more, log_more, guest_more, line_more}
 
 pub file_told : (r : ℕ) (fs : List FilePart) (gs : List GuestPart) (ws : List (List ℕ)) (x : FilePart) → file_of_words ws ≡ Some x → file_read r fs gs ws ≡ file_more x (Parts r fs gs)

@@ -3,11 +3,11 @@ use Rattle.std.proofs.Common.{◌≡◌, ◌∙◌, ap, refl, ℕ, map, List, []
 use Rattle.std.specs.List.{flat_map}
 use Rattle.std.proofs.lemmas.List.Concat.{flat_map-append}
 use Rattle.plain_text.specs.Printed.{joined, line}
-use Rattle.dax_audit.specs.TranscriptText.{entry_words, log_words, numbered_words, file_lines, guest_lines, transcript_lines, text_of}
+use Rattle.transcript_text.specs.TranscriptText.{entry_words, log_words, numbered_words, file_lines, guest_lines, transcript_lines, text_of}
 use Rattle.transcript_text.specs.Parts.{file_words}
-use Rattle.dax_audit.specs.declared.transcripts.FilePart.{FilePart}
-use Rattle.dax_audit.specs.declared.transcripts.GuestPart.{GuestPart}
-use Rattle.dax_audit.specs.declared.transcripts.Transcript.{Transcript}
+use Rattle.transcript_text.specs.declared.transcripts.FilePart.{FilePart}
+use Rattle.transcript_text.specs.declared.transcripts.GuestPart.{GuestPart}
+use Rattle.transcript_text.specs.declared.transcripts.Transcript.{Transcript}
 
 -- the words of the first two lines
 abbrev pub version_words : Transcript → List (List ℕ)

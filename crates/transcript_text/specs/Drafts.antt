@@ -2,19 +2,19 @@
 use Rattle.std.specs.Prelude.{◌≡◌, ℕ, List, [], ◌∷◌, ◌++◌, Option, Some, None, option_map, MatchOption, ⊤, Bool, false, ◌==◌, Result, Err}
 use Rattle.std.specs.Borrow.{Bor}
 use Rattle.plain_text.specs.Words.{parts, space}
-use Rattle.dax_audit.specs.declared.transcripts.EntryLine.{EntryLine}
-use Rattle.dax_audit.specs.declared.transcripts.FilePart.{FilePart}
-use Rattle.dax_audit.specs.declared.transcripts.GuestPart.{GuestPart}
-use Rattle.dax_audit.specs.declared.transcripts.Line.{Line}
-use Rattle.dax_audit.specs.declared.transcripts.Line.TheVariants as lines
-use Rattle.dax_audit.specs.declared.transcripts.Numbered.{Numbered}
-use Rattle.dax_audit.specs.declared.transcripts.Transcript.{Transcript}
-use Rattle.dax_audit.specs.declared.transcripts.BadTranscript.{BadTranscript}
-use Rattle.dax_audit.specs.declared.transcripts.BadTranscript.TheVariants as bad
+use Rattle.transcript_text.specs.declared.transcripts.EntryLine.{EntryLine}
+use Rattle.transcript_text.specs.declared.transcripts.FilePart.{FilePart}
+use Rattle.transcript_text.specs.declared.transcripts.GuestPart.{GuestPart}
+use Rattle.transcript_text.specs.declared.transcripts.Line.{Line}
+use Rattle.transcript_text.specs.declared.transcripts.Line.TheVariants as lines
+use Rattle.transcript_text.specs.declared.transcripts.Numbered.{Numbered}
+use Rattle.transcript_text.specs.declared.transcripts.Transcript.{Transcript}
+use Rattle.transcript_text.specs.declared.transcripts.BadTranscript.{BadTranscript}
+use Rattle.transcript_text.specs.declared.transcripts.BadTranscript.TheVariants as bad
 use Rattle.plain_text.specs.Hexadecimal.{hex_of}
 use Rattle.plain_text.specs.Options.{◌>>=◌}
 use Rattle.page_map.specs.declared.ranges.LogEntry.{LogEntry}
-use Rattle.dax_audit.specs.TranscriptReading.{only_byte, number_32, number_64, via_of, Reading, Start, Version, Parts, Ended, onto_last, with_entry, with_log, with_line}
+use Rattle.transcript_text.specs.TranscriptReading.{only_byte, number_32, number_64, via_of, Reading, Start, Version, Parts, Ended, onto_last, with_entry, with_log, with_line}
 use Rattle.transcript_text.specs.declared.drafts.Draft.{Draft}
 
 -- the words of what lies behind a space; none where there is no space

@@ -1,8 +1,8 @@
 ghost use Rattle.std.specs.Prelude.{◌≡◌, ◌++◌, ◌∷◌, [], codes, Some, option_map, IfOk, IfSome};
-ghost use Rattle.dax_audit.specs.TranscriptReading.{with_entry, with_log, with_line, line_read};
+ghost use Rattle.transcript_text.specs.TranscriptReading.{with_entry, with_log, with_line, line_read};
 ghost use Rattle.transcript_text.specs.Drafts.{IsDraft, listed, end, parts_from, reading_of, file_more, entry_more, log_more, guest_more, line_more};
 
-use dax_audit::{EntryLine, FilePart, GuestPart, Numbered, Transcript};
+use crate::transcripts::{EntryLine, FilePart, GuestPart, Numbered, Transcript};
 use plain_file::{List, Memory};
 use range_tree::LogEntry;
 use std::alloc::Global;
@@ -238,7 +238,7 @@ fn gathered<T: Drop>(before: List<T>, last: Option<T>) -> Result<List<T>, Memory
 }
 
 /// The transcript of a draft at its end.
-#[tactic(auto, unfolding(dax_audit::specs::TranscriptReading::line_read, dax_audit::specs::TranscriptReading::end_read))]
+#[tactic(auto, unfolding(crate::specs::TranscriptReading::line_read, crate::specs::TranscriptReading::end_read))]
 pub(crate) fn ended(draft: Draft) -> Result<Transcript, Memory>
     ensures { IfOk result (λ t. Some (end t) ≡ line_read (reading_of draft) (codes "end" ∷ [])) }
 {

@@ -1,12 +1,19 @@
-//! The text of a transcript: [`print`] writes it.
+//! Transcripts of runs and their text: [`print`] writes it.
 //!
-//! What the text is stands in `dax_audit`'s `specs/`: `TranscriptText` and `TranscriptReading`. Of its reader
-//! the lines and their words stand in `parsing`, `reading` and `drafts`; nothing calls them yet.
+//! The meaning stands in `specs/`: `TranscriptText` (the text), `TranscriptReading` (what text is a
+//! transcript, and else which line is the first bad one). Of the reader the lines and their words stand in
+//! `parsing`, `reading` and `drafts`; nothing calls them yet.
 #![tactic(auto)]
 
 mod drafts;
+mod laws;
 mod parsing;
 mod printing;
 mod reading;
+mod transcripts;
 
+pub use laws::text_determines_transcript;
 pub use printing::print;
+pub use transcripts::{
+    BadTranscript, EntryLine, FilePart, GuestPart, Line, Numbered, Transcript,
+};

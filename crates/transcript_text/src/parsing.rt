@@ -2,17 +2,17 @@ ghost use Rattle.std.specs.Prelude.{◌≡◌, ◌∷◌, ◌++◌, ◌≤◌, �
 ghost use Rattle.std.specs.Str.{bytes_eq};
 ghost use Rattle.plain_text.specs.Words.{parts, space, line_end};
 ghost use Rattle.transcript_text.specs.Drafts.{behind, listed, is_one, IsDraft, IsCause, reading_of, parts_from, start, version};
-ghost use Rattle.dax_audit.specs.TranscriptReading.{number_32, file_read, entry_read, log_read, guest_read, call_read, line_read, transcript_from, transcript_of};
+ghost use Rattle.transcript_text.specs.TranscriptReading.{number_32, file_read, entry_read, log_read, guest_read, call_read, line_read, transcript_from, transcript_of};
 
 use crate::drafts::{Draft, add_entry, add_line, add_log, ended, new_draft, with_file, with_guest};
 use crate::reading::{entry, file, first_word, guest, log_entry, next_word, number_32, numbered};
-use dax_audit::{BadTranscript, Transcript};
+use crate::transcripts::{BadTranscript, Transcript};
 use plain_file::Memory;
 use plain_text::cut;
 use std::alloc::Global;
 
 // Whether a line is that of the version.
-#[tactic(auto, unfolding(dax_audit::specs::TranscriptReading::line_read, dax_audit::specs::TranscriptReading::version_read))]
+#[tactic(auto, unfolding(crate::specs::TranscriptReading::line_read, crate::specs::TranscriptReading::version_read))]
 fn is_version_line(line: &[u8]) -> bool
     ensures { line_read start (parts space line.now) ≡ (if result then Some version else None) }
 {
@@ -36,7 +36,7 @@ fn is_one(word: &[u8]) -> bool
 }
 
 // The number of ranges that a line tells.
-#[tactic(auto, unfolding(dax_audit::specs::TranscriptReading::line_read, dax_audit::specs::TranscriptReading::ranges_read))]
+#[tactic(auto, unfolding(crate::specs::TranscriptReading::line_read, crate::specs::TranscriptReading::ranges_read))]
 fn ranges_line(line: &[u8]) -> Option<u32>
     ensures { option_map parts_from result ≡ line_read version (parts space line.now) }
 {
@@ -118,7 +118,7 @@ fn call_line(
 }
 
 // The draft after a line, by the line's first word and what lies behind it. The word isn't `end`.
-#[tactic(auto, unfolding(dax_audit::specs::TranscriptReading::line_read))]
+#[tactic(auto, unfolding(crate::specs::TranscriptReading::line_read))]
 fn draft_line(
     alloc: Global,
     draft: Draft,

@@ -3,9 +3,9 @@ ghost use Rattle.std.specs.List.{flat_map};
 ghost use Rattle.hex.specs.Hex.{encode_lower};
 ghost use Rattle.plain_text.specs.Printed.{line, followed, after_space};
 ghost use Rattle.transcript_text.specs.Parts.{file_words};
-ghost use Rattle.dax_audit.specs.TranscriptText.{through_words, way_words, bytes_word, answer_words, line_words, mode_word, log_entry_words, log_words, entry_words, numbered_words, file_lines, guest_lines, text_of};
+ghost use Rattle.transcript_text.specs.TranscriptText.{through_words, way_words, bytes_word, answer_words, line_words, mode_word, log_entry_words, log_words, entry_words, numbered_words, file_lines, guest_lines, text_of};
 
-use dax_audit::{EntryLine, FilePart, GuestPart, Line, Numbered, Transcript};
+use crate::transcripts::{EntryLine, FilePart, GuestPart, Line, Numbered, Transcript};
 use page_map::Mode;
 use plain_file::{Answer, Blob, List, Memory, Through, Way};
 use plain_text::{put, put_hex, put_number};
@@ -95,7 +95,7 @@ fn put_entry(out: &mut Vec<u8>, entry: &EntryLine) -> Result<(), Memory>
     Ok(())
 }
 
-#[tactic(auto, unfolding(dax_audit::specs::TranscriptText::way_words))]
+#[tactic(auto, unfolding(crate::specs::TranscriptText::way_words))]
 fn put_way(out: &mut Vec<u8>, way: &Way) -> Result<(), Memory>
     ensures { OnOk result (out.new.items ≡ out.old.items ++ followed (way_words way.now)) }
 {
@@ -144,7 +144,7 @@ fn put_log_entry(out: &mut Vec<u8>, entry: &LogEntry) -> Result<(), Memory>
     Ok(())
 }
 
-#[tactic(auto, unfolding(dax_audit::specs::TranscriptText::log_entry_words))]
+#[tactic(auto, unfolding(crate::specs::TranscriptText::log_entry_words))]
 fn put_step(out: &mut Vec<u8>, entry: &LogEntry) -> Result<(), Memory>
     ensures { OnOk result (out.new.items ≡ out.old.items ++ followed (log_entry_words entry.now)) }
 {
@@ -211,7 +211,7 @@ fn put_numbered(out: &mut Vec<u8>, numbered: &Numbered) -> Result<(), Memory>
     Ok(())
 }
 
-#[tactic(auto, unfolding(dax_audit::specs::TranscriptText::line_words))]
+#[tactic(auto, unfolding(crate::specs::TranscriptText::line_words))]
 fn put_line(out: &mut Vec<u8>, line: &Line) -> Result<(), Memory>
     ensures { OnOk result (out.new.items ≡ out.old.items ++ followed (line_words line.now)) }
 {
@@ -244,7 +244,7 @@ fn put_line(out: &mut Vec<u8>, line: &Line) -> Result<(), Memory>
     }
 }
 
-#[tactic(auto, unfolding(dax_audit::specs::TranscriptText::answer_words))]
+#[tactic(auto, unfolding(crate::specs::TranscriptText::answer_words))]
 fn put_answer(out: &mut Vec<u8>, answer: &Answer) -> Result<(), Memory>
     ensures { OnOk result (out.new.items ≡ out.old.items ++ followed (answer_words answer.now)) }
 {

@@ -3,9 +3,9 @@ ghost use Rattle.std.specs.List.{list_all};
 ghost use Rattle.plain_text.specs.Words.{parts, space};
 ghost use Rattle.dax_script.specs.ScriptWords.{is_script_name, is_script_name_byte};
 ghost use Rattle.transcript_text.specs.Drafts.{behind, fill_from, leased_of, past_of, held_of};
-ghost use Rattle.dax_audit.specs.TranscriptReading.{number_32, number_64, only_byte, bytes_of, through_of, way_of, answer_of_words, is_letter, is_letters, via_of, mode_of, log_of_words, line_of_words, numbered_of, entry_of_words, file_of_words, guest_of_words};
+ghost use Rattle.transcript_text.specs.TranscriptReading.{number_32, number_64, only_byte, bytes_of, through_of, way_of, answer_of_words, is_letter, is_letters, via_of, mode_of, log_of_words, line_of_words, numbered_of, entry_of_words, file_of_words, guest_of_words};
 
-use dax_audit::{EntryLine, FilePart, GuestPart, Line, Numbered};
+use crate::transcripts::{EntryLine, FilePart, GuestPart, Line, Numbered};
 use page_map::Mode;
 use plain_file::{Answer, Blob, First, List, Memory, Name, Through, Way};
 use plain_text::{cut, hex_bytes, number_up_to};
@@ -30,7 +30,7 @@ pub(crate) fn next_word(more: Option<&[u8]>) -> Option<(&[u8], Option<&[u8]>)>
 }
 
 // A number of 32 bits.
-#[tactic(auto, unfolding(dax_audit::specs::TranscriptReading::number_32))]
+#[tactic(auto, unfolding(crate::specs::TranscriptReading::number_32))]
 pub(crate) fn number_32(word: &[u8]) -> Option<u32>
     ensures { result ≡ number_32 word.now }
 {
@@ -39,14 +39,14 @@ pub(crate) fn number_32(word: &[u8]) -> Option<u32>
 }
 
 // A number of 64 bits.
-#[tactic(auto, unfolding(dax_audit::specs::TranscriptReading::number_64))]
+#[tactic(auto, unfolding(crate::specs::TranscriptReading::number_64))]
 pub(crate) fn number_64(word: &[u8]) -> Option<u64>
     ensures { result ≡ number_64 word.now }
 {
     number_up_to(word, u64::MAX)
 }
 
-#[tactic(auto, unfolding(dax_audit::specs::TranscriptReading::bytes_of))]
+#[tactic(auto, unfolding(crate::specs::TranscriptReading::bytes_of))]
 fn bytes(alloc: Global, word: &[u8]) -> Result<Option<Blob>, Memory>
     ensures { IfOk result (λ o. o ≡ bytes_of word.now) }
 {
@@ -56,7 +56,7 @@ fn bytes(alloc: Global, word: &[u8]) -> Result<Option<Blob>, Memory>
     hex_bytes(alloc, word)
 }
 
-#[tactic(auto, unfolding(dax_audit::specs::TranscriptReading::through_of))]
+#[tactic(auto, unfolding(crate::specs::TranscriptReading::through_of))]
 fn through(entry: &[u8], upto: &[u8]) -> Option<Through>
     ensures { result ≡ through_of entry.now upto.now }
 {
@@ -65,7 +65,7 @@ fn through(entry: &[u8], upto: &[u8]) -> Option<Through>
     Some(Through { entry, upto })
 }
 
-#[tactic(auto, unfolding(dax_audit::specs::TranscriptReading::way_of))]
+#[tactic(auto, unfolding(crate::specs::TranscriptReading::way_of))]
 fn plain_way(verb: &[u8]) -> Option<Way>
     ensures { result ≡ way_of (verb.now ∷ []) }
 {
@@ -76,7 +76,7 @@ fn plain_way(verb: &[u8]) -> Option<Way>
     }
 }
 
-#[tactic(auto, unfolding(dax_audit::specs::TranscriptReading::way_of))]
+#[tactic(auto, unfolding(crate::specs::TranscriptReading::way_of))]
 fn seen_way(verb: &[u8], size: &[u8]) -> Option<Way>
     ensures { result ≡ way_of (verb.now ∷ size.now ∷ []) }
 {
@@ -87,7 +87,7 @@ fn seen_way(verb: &[u8], size: &[u8]) -> Option<Way>
     Some(Way::ReqSaw(size))
 }
 
-#[tactic(auto, unfolding(dax_audit::specs::TranscriptReading::way_of))]
+#[tactic(auto, unfolding(crate::specs::TranscriptReading::way_of))]
 fn via_one(verb: &[u8], entry: &[u8], upto: &[u8]) -> Option<Way>
     ensures { result ≡ way_of (verb.now ∷ entry.now ∷ upto.now ∷ []) }
 {
@@ -98,7 +98,7 @@ fn via_one(verb: &[u8], entry: &[u8], upto: &[u8]) -> Option<Way>
     Some(Way::Via(first, None))
 }
 
-#[tactic(auto, unfolding(dax_audit::specs::TranscriptReading::way_of))]
+#[tactic(auto, unfolding(crate::specs::TranscriptReading::way_of))]
 fn via_two(verb: &[u8], entry: &[u8], upto: &[u8], next: &[u8], last: &[u8]) -> Option<Way>
     ensures { result ≡ way_of (verb.now ∷ entry.now ∷ upto.now ∷ next.now ∷ last.now ∷ []) }
 {
@@ -110,7 +110,7 @@ fn via_two(verb: &[u8], entry: &[u8], upto: &[u8], next: &[u8], last: &[u8]) -> 
     Some(Way::Via(first, Some(second)))
 }
 
-#[tactic(auto, unfolding(dax_audit::specs::TranscriptReading::way_of))]
+#[tactic(auto, unfolding(crate::specs::TranscriptReading::way_of))]
 fn way(more: Option<&[u8]>) -> Option<Way>
     ensures { result ≡ way_of (behind more.entry) }
 {
@@ -132,7 +132,7 @@ fn way(more: Option<&[u8]>) -> Option<Way>
 }
 
 /// The entry that words tell.
-#[tactic(auto, unfolding(dax_audit::specs::TranscriptReading::entry_of_words))]
+#[tactic(auto, unfolding(crate::specs::TranscriptReading::entry_of_words))]
 pub(crate) fn entry(more: Option<&[u8]>) -> Option<EntryLine>
     ensures { result ≡ entry_of_words (behind more.entry) }
 {
@@ -144,7 +144,7 @@ pub(crate) fn entry(more: Option<&[u8]>) -> Option<EntryLine>
     Some(EntryLine { guest, call, way })
 }
 
-#[tactic(auto, unfolding(dax_audit::specs::TranscriptReading::mode_of))]
+#[tactic(auto, unfolding(crate::specs::TranscriptReading::mode_of))]
 fn mode(word: &[u8]) -> Option<Mode>
     ensures { result ≡ mode_of word.now }
 {
@@ -157,7 +157,7 @@ fn mode(word: &[u8]) -> Option<Mode>
     }
 }
 
-#[tactic(auto, unfolding(dax_audit::specs::TranscriptReading::log_of_words))]
+#[tactic(auto, unfolding(crate::specs::TranscriptReading::log_of_words))]
 fn change(verb: &[u8], range: &[u8]) -> Option<LogEntry>
     ensures { result ≡ log_of_words (verb.now ∷ range.now ∷ []) }
 {
@@ -172,7 +172,7 @@ fn change(verb: &[u8], range: &[u8]) -> Option<LogEntry>
     }
 }
 
-#[tactic(auto, unfolding(dax_audit::specs::TranscriptReading::log_of_words))]
+#[tactic(auto, unfolding(crate::specs::TranscriptReading::log_of_words))]
 fn placing(verb: &[u8], chunk: &[u8], within: &[u8], range: &[u8], word: &[u8]) -> Option<LogEntry>
     ensures { result ≡ log_of_words (verb.now ∷ chunk.now ∷ within.now ∷ range.now ∷ word.now ∷ []) }
 {
@@ -186,7 +186,7 @@ fn placing(verb: &[u8], chunk: &[u8], within: &[u8], range: &[u8], word: &[u8]) 
 }
 
 /// The log's entry that words tell.
-#[tactic(auto, unfolding(dax_audit::specs::TranscriptReading::log_of_words))]
+#[tactic(auto, unfolding(crate::specs::TranscriptReading::log_of_words))]
 pub(crate) fn log_entry(more: Option<&[u8]>) -> Option<LogEntry>
     ensures { result ≡ log_of_words (behind more.entry) }
 {
@@ -203,7 +203,7 @@ pub(crate) fn log_entry(more: Option<&[u8]>) -> Option<LogEntry>
     placing(verb, first, second, third, fourth)
 }
 
-#[tactic(auto, unfolding(dax_audit::specs::TranscriptReading::answer_of_words))]
+#[tactic(auto, unfolding(crate::specs::TranscriptReading::answer_of_words))]
 fn two_words(alloc: Global, verb: &[u8], word: &[u8]) -> Result<Option<Answer>, Memory>
     ensures { IfOk result (λ o. o ≡ answer_of_words (verb.now ∷ word.now ∷ [])) }
 {
@@ -218,7 +218,7 @@ fn two_words(alloc: Global, verb: &[u8], word: &[u8]) -> Result<Option<Answer>, 
     }
 }
 
-#[tactic(auto, unfolding(dax_audit::specs::TranscriptReading::answer_of_words))]
+#[tactic(auto, unfolding(crate::specs::TranscriptReading::answer_of_words))]
 fn answer(alloc: Global, verb: &[u8], more: Option<&[u8]>) -> Result<Option<Answer>, Memory>
     ensures { IfOk result (λ o. o ≡ answer_of_words (verb.now ∷ behind more.entry)) }
 {
@@ -231,7 +231,7 @@ fn answer(alloc: Global, verb: &[u8], more: Option<&[u8]>) -> Result<Option<Answ
     two_words(alloc, verb, word)
 }
 
-#[tactic(auto, unfolding(dax_audit::specs::TranscriptReading::via_of))]
+#[tactic(auto, unfolding(crate::specs::TranscriptReading::via_of))]
 fn via(verb: &[u8], more: Option<&[u8]>) -> Option<Through>
     ensures { result ≡ via_of (verb.now ∷ behind more.entry) }
 {
@@ -258,7 +258,7 @@ fn has_letters(word: &[u8]) -> bool
     word.iter().all(|b| *b == b'p' || *b == b'm')
 }
 
-#[tactic(auto, unfolding(dax_audit::specs::TranscriptReading::line_of_words))]
+#[tactic(auto, unfolding(crate::specs::TranscriptReading::line_of_words))]
 fn bare_line(verb: &[u8]) -> Option<Line>
     ensures { result ≡ line_of_words (verb.now ∷ []) }
 {
@@ -271,7 +271,7 @@ fn bare_line(verb: &[u8]) -> Option<Line>
     }
 }
 
-#[tactic(auto, unfolding(dax_audit::specs::TranscriptReading::line_of_words))]
+#[tactic(auto, unfolding(crate::specs::TranscriptReading::line_of_words))]
 fn told_line(alloc: Global, verb: &[u8], word: &[u8]) -> Result<Option<Line>, Memory>
     ensures { IfOk result (λ o. o ≡ line_of_words (verb.now ∷ word.now ∷ [])) }
 {
@@ -305,7 +305,7 @@ fn past(word: &[u8]) -> Option<Line>
     Some(Line::Past { end })
 }
 
-#[tactic(auto, unfolding(dax_audit::specs::TranscriptReading::line_of_words))]
+#[tactic(auto, unfolding(crate::specs::TranscriptReading::line_of_words))]
 fn long_line(
     alloc: Global,
     verb: &[u8],
@@ -339,7 +339,7 @@ fn held(number: &[u8], word: &[u8], more: Option<&[u8]>) -> Option<Line>
 }
 
 // What became of a call, by words.
-#[tactic(auto, unfolding(dax_audit::specs::TranscriptReading::line_of_words))]
+#[tactic(auto, unfolding(crate::specs::TranscriptReading::line_of_words))]
 fn line(alloc: Global, more: Option<&[u8]>) -> Result<Option<Line>, Memory>
     ensures { IfOk result (λ o. o ≡ line_of_words (behind more.entry)) }
 {
@@ -356,7 +356,7 @@ fn line(alloc: Global, more: Option<&[u8]>) -> Result<Option<Line>, Memory>
 }
 
 /// A call's line, by its words.
-#[tactic(auto, unfolding(dax_audit::specs::TranscriptReading::numbered_of))]
+#[tactic(auto, unfolding(crate::specs::TranscriptReading::numbered_of))]
 pub(crate) fn numbered(
     alloc: Global,
     call: &[u8],
@@ -374,7 +374,7 @@ pub(crate) fn numbered(
 }
 
 /// The file that words tell, without an entry so far.
-#[tactic(auto, unfolding(dax_audit::specs::TranscriptReading::file_of_words))]
+#[tactic(auto, unfolding(crate::specs::TranscriptReading::file_of_words))]
 pub(crate) fn file(alloc: Global, more: Option<&[u8]>) -> Result<Option<FilePart>, Memory>
     ensures { IfOk result (λ o. o ≡ file_of_words (behind more.entry)) }
 {
@@ -407,7 +407,7 @@ pub(crate) fn file(alloc: Global, more: Option<&[u8]>) -> Result<Option<FilePart
     }))
 }
 
-#[tactic(auto, unfolding(dax_audit::specs::TranscriptReading::only_byte))]
+#[tactic(auto, unfolding(crate::specs::TranscriptReading::only_byte))]
 fn fill_of(alloc: Global, word: &[u8]) -> Result<Option<u8>, Memory>
     ensures { IfOk result (λ o. o ≡ fill_from word.now) }
 {
@@ -445,7 +445,7 @@ fn name_of(alloc: Global, word: &[u8]) -> Result<Option<Name>, Memory>
 }
 
 /// The guest that words tell, without a line so far.
-#[tactic(auto, unfolding(dax_audit::specs::TranscriptReading::guest_of_words))]
+#[tactic(auto, unfolding(crate::specs::TranscriptReading::guest_of_words))]
 pub(crate) fn guest(alloc: Global, more: Option<&[u8]>) -> Option<GuestPart>
     ensures { result ≡ guest_of_words (behind more.entry) }
 {

@@ -4,7 +4,7 @@ use Rattle.plain_file.specs.File.{max_file, answer}
 use Rattle.plain_file.specs.declared.operations.Way.TheVariants as ways
 use Rattle.plain_file.specs.Board.{BoardView, file_at, bytes_now, size_of, marked, applied}
 use Rattle.guest_wire.specs.declared.driver.FileRef.{FileRef}
-use Rattle.dax_audit.specs.declared.transcripts.Line.TheVariants as lines
+use Rattle.transcript_text.specs.declared.transcripts.Line.TheVariants as lines
 use Rattle.daxrun.specs.Carried.{file_of, op_of}
 use Rattle.daxrun.specs.Session.{history_at}
 use Rattle.daxrun.proofs.Places.{some_is}

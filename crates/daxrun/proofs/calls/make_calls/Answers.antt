@@ -2,8 +2,8 @@ use Rattle.std.proofs.Common.{◌≡◌, ◌∙◌, ap, sym, subst, ℕ, ◌+◌
 use Rattle.std.proofs.Math.Seq.{take-length}
 use Rattle.std.specs.List.{AllByRecursion}
 use Rattle.dax_script.specs.declared.scripts.Call.{Call}
-use Rattle.dax_audit.specs.declared.transcripts.Numbered.{Numbered}
-use Rattle.dax_audit.specs.TranscriptReading.{IsPrintableNumbered}
+use Rattle.transcript_text.specs.declared.transcripts.Numbered.{Numbered}
+use Rattle.transcript_text.specs.TranscriptReading.{IsPrintableNumbered}
 use Rattle.daxrun.specs.Carried.{file_of, op_of}
 use Rattle.daxrun.specs.Guest.{IsRunFrom}
 use Rattle.daxrun.specs.Session.{first_at, history_at}

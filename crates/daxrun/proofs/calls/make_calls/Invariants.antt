@@ -1,7 +1,7 @@
 use Rattle.std.proofs.Common.{◌≡◌, ℕ, length, take}
 use Rattle.std.specs.List.{AllByRecursion}
 use Rattle.guest_wire.specs.Wires.{boards}
-use Rattle.dax_audit.specs.TranscriptReading.{IsPrintableNumbered}
+use Rattle.transcript_text.specs.TranscriptReading.{IsPrintableNumbered}
 use Rattle.daxrun.specs.Guest.{IsRunFrom}
 use Rattle.daxrun.specs.Session.{IsOpened, IsOwn, AreOurs, first_at, history_at}
 use Rattle.daxrun.proofs.calls.make_calls.Given as goal

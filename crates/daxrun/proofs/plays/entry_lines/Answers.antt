@@ -1,7 +1,7 @@
 use Rattle.std.proofs.Common.{◌≡◌, ◌∙◌, sym, subst, ◌<◌, ◌++◌, List, [], ◌∷◌, length, arith}
 use Rattle.std.specs.List.{AllByRecursion}
-use Rattle.dax_audit.specs.declared.transcripts.EntryLine.{EntryLine}
-use Rattle.dax_audit.specs.TranscriptReading.{IsPrintableEntry}
+use Rattle.transcript_text.specs.declared.transcripts.EntryLine.{EntryLine}
+use Rattle.transcript_text.specs.TranscriptReading.{IsPrintableEntry}
 use Rattle.daxrun.specs.Guest.{entry_line}
 use Rattle.daxrun.proofs.Places.{at_index, all_push}
 use Rattle.daxrun.proofs.Playing.{mapped_more}

@@ -1,6 +1,6 @@
 use Rattle.std.proofs.Common.{◌≡◌, map, take}
 use Rattle.std.specs.List.{AllByRecursion}
-use Rattle.dax_audit.specs.TranscriptReading.{IsPrintableEntry}
+use Rattle.transcript_text.specs.TranscriptReading.{IsPrintableEntry}
 use Rattle.daxrun.specs.Guest.{entry_line}
 use Rattle.daxrun.proofs.plays.entry_lines.Given as goal
 

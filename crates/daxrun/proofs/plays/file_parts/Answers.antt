@@ -1,8 +1,8 @@
 use Rattle.std.proofs.Common.{◌≡◌, ◌∙◌, ap, sym, subst, ℕ, ◌+◌, ◌<◌, ◌++◌, List, [], ◌∷◌, length, take, arith}
 use Rattle.std.specs.List.{AllByRecursion}
 use Rattle.plain_file.specs.declared.operations.Entry.{Entry}
-use Rattle.dax_audit.specs.declared.transcripts.FilePart.{FilePart}
-use Rattle.dax_audit.specs.TranscriptReading.{IsPrintableFile}
+use Rattle.transcript_text.specs.declared.transcripts.FilePart.{FilePart}
+use Rattle.transcript_text.specs.TranscriptReading.{IsPrintableFile}
 use Rattle.daxrun.specs.Guest.{file_part, parts_from}
 use Rattle.daxrun.specs.Session.{history_at}
 use Rattle.daxrun.proofs.Places.{at_index, take_more, take_count, all_push}

@@ -1,6 +1,6 @@
 use Rattle.std.proofs.Common.{◌≡◌, take}
 use Rattle.std.specs.List.{AllByRecursion}
-use Rattle.dax_audit.specs.TranscriptReading.{IsPrintableFile}
+use Rattle.transcript_text.specs.TranscriptReading.{IsPrintableFile}
 use Rattle.daxrun.specs.Guest.{parts_from}
 use Rattle.daxrun.specs.Session.{history_at}
 use Rattle.daxrun.proofs.plays.file_parts.Given as goal

@@ -1,6 +1,6 @@
 use Rattle.std.proofs.Common.{◌∙◌, ap}
-use Rattle.dax_audit.specs.TranscriptReading.{transcript_of}
-use Rattle.dax_audit.proofs.ReadAgain.{transcript_of-text_of}
+use Rattle.transcript_text.specs.TranscriptReading.{transcript_of}
+use Rattle.transcript_text.proofs.ReadAgain.{transcript_of-text_of}
 use Rattle.daxrun.proofs.runs.transcribe.Goals as goal
 
 pub returns : goal.returns

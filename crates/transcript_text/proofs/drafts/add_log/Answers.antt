@@ -1,5 +1,5 @@
 use Rattle.std.proofs.Common.{◌∙◌, ap, sym, Option, option_map}
-use Rattle.dax_audit.specs.declared.transcripts.FilePart.{FilePart}
+use Rattle.transcript_text.specs.declared.transcripts.FilePart.{FilePart}
 use Rattle.transcript_text.specs.Drafts.{reading_of}
 use Rattle.transcript_text.proofs.Drafted.{filed, log_in}
 use Rattle.transcript_text.proofs.drafts.add_log.Goals as goal

@@ -1,5 +1,5 @@
 use Rattle.std.proofs.Common.{◌≡◌, ◌∙◌, ◌++◌, sym, subst, Option, option_map, IfOk}
-use Rattle.dax_audit.specs.TranscriptReading.{Reading}
+use Rattle.transcript_text.specs.TranscriptReading.{Reading}
 use Rattle.transcript_text.specs.Drafts.{behind, listed, reading_of}
 use Rattle.transcript_text.proofs.LinesRead.{file_told, file_untold}
 use Rattle.transcript_text.proofs.parsing.file_line.Goals as goal

@@ -1,6 +1,6 @@
 use Rattle.std.proofs.Common.{◌∷◌, codes, decimal, append_assoc, rules}
 use Rattle.plain_text.proofs.PrintedLines.{joined_first}
-use Rattle.dax_audit.specs.TranscriptText.{way_words}
+use Rattle.transcript_text.specs.TranscriptText.{way_words}
 use Rattle.transcript_text.proofs.printing.put_entry.Goals as goal
 
 pub returns : goal.returns

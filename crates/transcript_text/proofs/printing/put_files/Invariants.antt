@@ -1,7 +1,7 @@
 use Rattle.std.proofs.Common.{◌≡◌, ◌++◌, take}
 use Rattle.std.specs.List.{flat_map}
 use Rattle.plain_text.specs.Printed.{line}
-use Rattle.dax_audit.specs.TranscriptText.{file_lines}
+use Rattle.transcript_text.specs.TranscriptText.{file_lines}
 use Rattle.transcript_text.proofs.printing.put_files.Given as goal
 
 abbrev pub invariant-loop-file : goal.invariant-loop-file

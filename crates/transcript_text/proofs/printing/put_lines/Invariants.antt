@@ -1,7 +1,7 @@
 use Rattle.std.proofs.Common.{◌≡◌, ◌++◌, map, take}
 use Rattle.std.specs.List.{flat_map}
 use Rattle.plain_text.specs.Printed.{line}
-use Rattle.dax_audit.specs.TranscriptText.{numbered_words}
+use Rattle.transcript_text.specs.TranscriptText.{numbered_words}
 use Rattle.transcript_text.proofs.printing.put_lines.Given as goal
 
 abbrev pub invariant-loop-numbered : goal.invariant-loop-numbered

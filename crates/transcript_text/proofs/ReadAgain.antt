@@ -9,22 +9,22 @@ use Rattle.plain_file.specs.declared.operations.Answer.TheVariants as answers
 use Rattle.plain_file.specs.declared.operations.Through.{Through}
 use Rattle.plain_file.specs.declared.operations.Way.{Way}
 use Rattle.plain_file.specs.declared.operations.Way.TheVariants as ways
-use Rattle.dax_audit.specs.declared.transcripts.EntryLine.{EntryLine}
-use Rattle.dax_audit.specs.declared.transcripts.FilePart.{FilePart}
-use Rattle.dax_audit.specs.declared.transcripts.GuestPart.{GuestPart}
-use Rattle.dax_audit.specs.declared.transcripts.Line.{Line}
-use Rattle.dax_audit.specs.declared.transcripts.Line.TheVariants as lines
-use Rattle.dax_audit.specs.declared.transcripts.Numbered.{Numbered}
-use Rattle.dax_audit.specs.declared.transcripts.Transcript.{Transcript}
-use Rattle.dax_audit.specs.TranscriptText.{way_words, answer_words, line_words, entry_words, mode_word, log_entry_words, log_words, numbered_words, file_lines, guest_lines, transcript_lines, text_of}
-use Rattle.dax_audit.specs.TranscriptReading.{only_byte, through_of, way_of, answer_of_words, via_of, mode_of, log_of_words, line_of_words, numbered_of, entry_of_words, file_of_words, guest_of_words, Reading, Start, Version, Parts, onto_last, with_entry, with_log, with_line, version_read, ranges_read, file_read, entry_read, log_read, guest_read, or_line, call_read, end_read, line_read, whole, transcript_from, transcript_of, IsPrintableThrough, IsPrintableWay, IsPrintableEntry, IsPrintableFile, IsPrintableAnswer, IsPrintableLine, IsPrintableNumbered, IsPrintableGuest, IsPrintable, IsPrintableLog}
+use Rattle.transcript_text.specs.declared.transcripts.EntryLine.{EntryLine}
+use Rattle.transcript_text.specs.declared.transcripts.FilePart.{FilePart}
+use Rattle.transcript_text.specs.declared.transcripts.GuestPart.{GuestPart}
+use Rattle.transcript_text.specs.declared.transcripts.Line.{Line}
+use Rattle.transcript_text.specs.declared.transcripts.Line.TheVariants as lines
+use Rattle.transcript_text.specs.declared.transcripts.Numbered.{Numbered}
+use Rattle.transcript_text.specs.declared.transcripts.Transcript.{Transcript}
+use Rattle.transcript_text.specs.TranscriptText.{way_words, answer_words, line_words, entry_words, mode_word, log_entry_words, log_words, numbered_words, file_lines, guest_lines, transcript_lines, text_of}
+use Rattle.transcript_text.specs.TranscriptReading.{only_byte, through_of, way_of, answer_of_words, via_of, mode_of, log_of_words, line_of_words, numbered_of, entry_of_words, file_of_words, guest_of_words, Reading, Start, Version, Parts, onto_last, with_entry, with_log, with_line, version_read, ranges_read, file_read, entry_read, log_read, guest_read, or_line, call_read, end_read, line_read, whole, transcript_from, transcript_of, IsPrintableThrough, IsPrintableWay, IsPrintableEntry, IsPrintableFile, IsPrintableAnswer, IsPrintableLine, IsPrintableNumbered, IsPrintableGuest, IsPrintable, IsPrintableLog}
 use Rattle.page_map.specs.declared.pages.Mode.{Mode}
 use Rattle.page_map.specs.declared.pages.Mode.TheVariants as modes
 use Rattle.page_map.specs.declared.ranges.LogEntry.{LogEntry}
 use Rattle.page_map.specs.declared.ranges.LogEntry.TheVariants as logs
 use Rattle.plain_text.proofs.CleanWords.{decimal_differs, hex_of-encode_lower}
-use Rattle.dax_audit.proofs.PrintedWords.{number_32-decimal, number_64-decimal, bytes_of-bytes_word, words_from, read_printed}
-use Rattle.dax_audit.proofs.CleanLines.{clean_transcript}
+use Rattle.transcript_text.proofs.PrintedWords.{number_32-decimal, number_64-decimal, bytes_of-bytes_word, words_from, read_printed}
+use Rattle.transcript_text.proofs.CleanLines.{clean_transcript}
 use Rattle.plain_text.proofs.PrintedLines.{lines-printed}
 
 -- ---- the words of one line

@@ -7,22 +7,22 @@ use Rattle.plain_file.specs.declared.operations.Answer.TheVariants as answers
 use Rattle.plain_file.specs.declared.operations.Through.{Through}
 use Rattle.plain_file.specs.declared.operations.Way.{Way}
 use Rattle.plain_file.specs.declared.operations.Way.TheVariants as ways
-use Rattle.dax_audit.specs.declared.transcripts.EntryLine.{EntryLine}
-use Rattle.dax_audit.specs.declared.transcripts.FilePart.{FilePart}
-use Rattle.dax_audit.specs.declared.transcripts.GuestPart.{GuestPart}
-use Rattle.dax_audit.specs.declared.transcripts.Line.{Line}
-use Rattle.dax_audit.specs.declared.transcripts.Line.TheVariants as lines
-use Rattle.dax_audit.specs.declared.transcripts.Numbered.{Numbered}
-use Rattle.dax_audit.specs.declared.transcripts.Transcript.{Transcript}
-use Rattle.dax_audit.specs.TranscriptText.{through_words, way_words, answer_words, line_words, entry_words, mode_word, log_entry_words, log_words, numbered_words, file_lines, guest_lines, transcript_lines}
-use Rattle.dax_audit.specs.TranscriptReading.{IsPrintableThrough, IsPrintableWay, IsPrintableEntry, IsPrintableFile, IsPrintableAnswer, IsPrintableLine, IsPrintableNumbered, IsPrintableGuest, IsPrintable, IsPrintableLog, is_letter, is_letters}
+use Rattle.transcript_text.specs.declared.transcripts.EntryLine.{EntryLine}
+use Rattle.transcript_text.specs.declared.transcripts.FilePart.{FilePart}
+use Rattle.transcript_text.specs.declared.transcripts.GuestPart.{GuestPart}
+use Rattle.transcript_text.specs.declared.transcripts.Line.{Line}
+use Rattle.transcript_text.specs.declared.transcripts.Line.TheVariants as lines
+use Rattle.transcript_text.specs.declared.transcripts.Numbered.{Numbered}
+use Rattle.transcript_text.specs.declared.transcripts.Transcript.{Transcript}
+use Rattle.transcript_text.specs.TranscriptText.{through_words, way_words, answer_words, line_words, entry_words, mode_word, log_entry_words, log_words, numbered_words, file_lines, guest_lines, transcript_lines}
+use Rattle.transcript_text.specs.TranscriptReading.{IsPrintableThrough, IsPrintableWay, IsPrintableEntry, IsPrintableFile, IsPrintableAnswer, IsPrintableLine, IsPrintableNumbered, IsPrintableGuest, IsPrintable, IsPrintableLog, is_letter, is_letters}
 use Rattle.std.proofs.lemmas.Bool.{and_parts}
 use Rattle.page_map.specs.declared.pages.Mode.{Mode}
 use Rattle.page_map.specs.declared.pages.Mode.TheVariants as modes
 use Rattle.page_map.specs.declared.ranges.LogEntry.{LogEntry}
 use Rattle.page_map.specs.declared.ranges.LogEntry.TheVariants as logs
 use Rattle.plain_text.proofs.CleanWords.{IsCleanWord, clean_from_test, clean_decimal, clean_hex}
-use Rattle.dax_audit.proofs.PrintedWords.{clean_name, clean_bytes}
+use Rattle.transcript_text.proofs.PrintedWords.{clean_name, clean_bytes}
 use Rattle.plain_text.proofs.PrintedLines.{IsCleanLine, all_append}
 
 all_map : {X Y : Type 0} (P : Y → Type 0) (Q : X → Type 0) (f : X → Y) → ((x : X) → Q x → P (f x)) → (xs : List X) → AllByRecursion Q xs → AllByRecursion P (map f xs)

@@ -13,13 +13,13 @@ use Rattle.page_map.specs.declared.pages.Mode.{Mode}
 use Rattle.page_map.specs.declared.pages.Mode.TheVariants as modes
 use Rattle.page_map.specs.declared.ranges.LogEntry.{LogEntry}
 use Rattle.page_map.specs.declared.ranges.LogEntry.TheVariants as logs
-use Rattle.dax_audit.specs.declared.transcripts.EntryLine.{EntryLine}
-use Rattle.dax_audit.specs.declared.transcripts.FilePart.{FilePart}
-use Rattle.dax_audit.specs.declared.transcripts.GuestPart.{GuestPart}
-use Rattle.dax_audit.specs.declared.transcripts.Line.{Line}
-use Rattle.dax_audit.specs.declared.transcripts.Line.TheVariants as lines
-use Rattle.dax_audit.specs.declared.transcripts.Numbered.{Numbered}
-use Rattle.dax_audit.specs.declared.transcripts.Transcript.{Transcript}
+use Rattle.transcript_text.specs.declared.transcripts.EntryLine.{EntryLine}
+use Rattle.transcript_text.specs.declared.transcripts.FilePart.{FilePart}
+use Rattle.transcript_text.specs.declared.transcripts.GuestPart.{GuestPart}
+use Rattle.transcript_text.specs.declared.transcripts.Line.{Line}
+use Rattle.transcript_text.specs.declared.transcripts.Line.TheVariants as lines
+use Rattle.transcript_text.specs.declared.transcripts.Numbered.{Numbered}
+use Rattle.transcript_text.specs.declared.transcripts.Transcript.{Transcript}
 
 abbrev pub through_words : Through → List (List ℕ)
 through_words k = decimal k.entry ∷ decimal k.upto ∷ []

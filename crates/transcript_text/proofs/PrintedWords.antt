@@ -8,9 +8,9 @@ use Rattle.plain_text.specs.Printed.{joined}
 use Rattle.plain_text.proofs.CleanWords.{IsCleanWord, clean_from_test, clean_hex, number_within-decimal, hex_of-encode_lower}
 use Rattle.plain_text.proofs.PrintedLines.{IsCleanLine, words-joined}
 use Rattle.dax_script.specs.ScriptWords.{is_script_name, is_script_name_byte}
-use Rattle.dax_audit.specs.declared.transcripts.Transcript.{Transcript}
-use Rattle.dax_audit.specs.TranscriptText.{bytes_word}
-use Rattle.dax_audit.specs.TranscriptReading.{number_32, number_64, bytes_of, Reading, line_read, or_line, whole, transcript_from}
+use Rattle.transcript_text.specs.declared.transcripts.Transcript.{Transcript}
+use Rattle.transcript_text.specs.TranscriptText.{bytes_word}
+use Rattle.transcript_text.specs.TranscriptReading.{number_32, number_64, bytes_of, Reading, line_read, or_line, whole, transcript_from}
 
 name_byte : (b : ℕ) → is_script_name_byte b ≡ true → 32 < b
 name_byte b e = grind (arith, tests)
