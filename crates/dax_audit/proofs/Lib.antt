@@ -9,3 +9,4 @@ pub mod Replayed
 pub mod Wayed
 pub mod Taled
 pub mod Audited
+pub mod Fitted

@@ -1,8 +1,9 @@
-ghost use Rattle.std.specs.Prelude.{◌≡◌, ◌≤◌, ◌<◌, ◌+◌, ◌^◌, ℕ, length, map, slice_get, Some, IfOk, IfSome};
+ghost use Rattle.std.specs.Prelude.{◌≡◌, true, ◌≤◌, ◌<◌, ◌+◌, ◌^◌, ℕ, length, map, slice_get, Some, IfOk, IfSome};
 ghost use Rattle.std.specs.List.{position_from};
 ghost use Rattle.plain_file.specs.File.{max_file};
 ghost use Rattle.range_tree.specs.Logs.{unsound_at};
 ghost use Rattle.dax_script.specs.Asks.{hold_places, calls_of};
+ghost use Rattle.dax_script.specs.Fits.{fits};
 ghost use Rattle.transcript_text.specs.declared.transcripts.FilePart.{FilePart};
 ghost use Rattle.dax_audit.specs.Items.{items};
 ghost use Rattle.dax_audit.specs.Rules.{breaks_files, breaks_guests, breaks_forms, breaks_entries, breaks_order, breaks_replies, breaks_ways, breaks_tales, breaks_logs};
@@ -10,6 +11,7 @@ ghost use Rattle.dax_audit.specs.Tables.{AreHolds};
 ghost use Rattle.dax_audit.specs.Tables.{StaysWithin, AreReplays, AreLooks, AreLooksTo, AreNamed, HaveEntries, IsSound, verdict_of};
 ghost use Rattle.dax_audit.specs.Legal.{fault};
 
+use crate::counts::count_lines;
 use crate::line_rules::{Forms, Order, Replies};
 use crate::looks::{Look, look_through};
 use crate::part_rules::{Files, Guests, Logs, unsound_places};
@@ -217,9 +219,20 @@ fn rule_9(script: &Script, t: &Transcript, unsound: &[Option<u64>]) -> Option<u6
     first_broken(t, &Logs { script, t, unsound })
 }
 
-/// Whether a transcript is legal for a script; else its first fault.
-#[tactic(auto, using(crate::proofs::Exactly::are_named, crate::proofs::Exactly::have_entries), unfolding(crate::specs::Legal::fault, crate::specs::Legal::the_rules, crate::specs::Legal::first_fault))]
+/// Whether a transcript is legal for a script that fits; else its first fault. `Memory` comes where an
+/// allocation was refused, and where the transcript has 2^64 - 1 lines or more.
 pub fn audit(alloc: Global, script: &Script, t: &Transcript) -> Result<Verdict, Memory>
+    requires fits { fits script.now ≡ true }
+    ensures { IfOk result (λ v. v ≡ verdict_of (fault script.now t.now)) }
+{
+    if count_lines(t) == u64::MAX {
+        return Err(Memory);
+    }
+    find_fault(alloc, script, t)
+}
+
+#[tactic(auto, using(crate::proofs::Exactly::are_named, crate::proofs::Exactly::have_entries), unfolding(crate::specs::Legal::fault, crate::specs::Legal::the_rules, crate::specs::Legal::first_fault))]
+fn find_fault(alloc: Global, script: &Script, t: &Transcript) -> Result<Verdict, Memory>
     requires sound { IsSound script.now }
     requires few { length (items t.now) + 1 < 2 ^ 64 }
     ensures { IfOk result (λ v. v ≡ verdict_of (fault script.now t.now)) }
