@@ -10,3 +10,4 @@ pub mod Wayed
 pub mod Taled
 pub mod Audited
 pub mod Fitted
+pub mod Lived
