@@ -71,17 +71,10 @@ pub fn is_among(sizes: &[u64], low: u128, high: u64, z: u64) -> bool
     if low > high as u128 {
         return false;
     }
-    sizes[low as usize..=high as usize].iter().any(|x| *x == z)
+    sizes[low as usize..=high as usize].contains(&z)
 }
 
-/// Whether a placement of a log is live, and for `write` also writable.
-fn is_live(write: bool, lives: &Lives<'_>, chunk: u64, through: &Through) -> bool
-    ensures { result ≡ is_live write lives.now.log.now chunk through.now.entry through.now.upto }
-{
-    lives.is_live(write, chunk, through.entry, through.upto)
-}
-
-/// The same of a file's log; false where there is no such file.
+/// Whether a placement of a file's log is live, and for `write` also writable; false where there is no such file.
 #[tactic(auto, using(crate::proofs::Lived::nothing_lives), unfolding(crate::specs::Tables::lives_in))]
 pub fn is_live_in(
     write: bool,
@@ -93,7 +86,7 @@ pub fn is_live_in(
     ensures { result ≡ is_live write (lives_in lives.now file) chunk through.now.entry through.now.upto }
 {
     match pick(lives, file) {
-        Some(lives) => is_live(write, lives, chunk, through),
+        Some(lives) => lives.is_live(write, chunk, through.entry, through.upto),
         None => false,
     }
 }
@@ -110,10 +103,10 @@ pub fn covers(write: bool, lives: &Lives<'_>, off: u64, len: u64, way: &Way) -> 
         return false;
     };
     match more {
-        None => first == last && is_live(write, lives, first, k),
+        None => first == last && lives.is_live(write, first, k.entry, k.upto),
         Some(m) => first != last
-            && is_live(write, lives, first, k)
-            && is_live(write, lives, first + 1, m),
+            && lives.is_live(write, first, k.entry, k.upto)
+            && lives.is_live(write, first + 1, m.entry, m.upto),
     }
 }
 
