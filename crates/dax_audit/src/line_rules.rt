@@ -9,7 +9,7 @@ use crate::answers::{is_right_at, seen_of};
 use crate::looks::Look;
 use crate::picks::pick;
 use crate::replays::Replay;
-use crate::rules::{guest_calls, guest_holds};
+use crate::rules::{guest_calls, guest_holds, place_of};
 use crate::tests_of::CallTest;
 use dax_script::{Call, Script, target_of};
 use plain_file::Answer;
@@ -136,7 +136,7 @@ impl<'a> CallTest for Order<'a> {
         let Some(asked) = pick(calls, call) else {
             return true;
         };
-        let Some(place) = line.place() else {
+        let Some(place) = place_of(line) else {
             return true;
         };
         match target_of(calls, guest_holds(self.script, self.holds, guest), asked) {

@@ -5,6 +5,7 @@ ghost use Rattle.dax_script.specs.declared.asks.Target.{Target};
 ghost use Rattle.dax_script.specs.Asks.{hold_places, target, hold_in};
 ghost use Rattle.dax_audit.specs.Guests.{seen_at, given_at, seen_now, given_now, noted, given_back, place_of, is_released, is_release, releases};
 
+use crate::rules::place_of;
 use dax_script::{Call, Target, target_of};
 use plain_file::Memory;
 use std::alloc::Global;
@@ -93,7 +94,7 @@ pub fn look_through(
         let to = target_of(calls, holds, call);
         seen.push(seen_now(&last, to))?;
         given.push(given_now(&released, call.hold()))?;
-        note_place(&mut last, to, line.place());
+        note_place(&mut last, to, place_of(line));
         note_release(&mut released, call, line);
     }
     Ok(Look { seen, given })

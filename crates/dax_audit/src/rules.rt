@@ -10,16 +10,14 @@ use crate::walks::{Judge, Row};
 use dax_script::{Call, Script, Target, target_of};
 use transcript_text::{EntryLine, Line, Numbered, Transcript};
 
-impl Line {
-    /// The place of a call that is done.
-    #[tactic(auto, unfolding(crate::specs::Guests::place_of))]
-    pub fn place(&self) -> Option<u64>
-        ensures { result ≡ place_of self.now }
-    {
-        match self {
-            Line::Done { place, .. } => Some(*place),
-            _ => None,
-        }
+/// The place of a call that is done.
+#[tactic(auto, unfolding(crate::specs::Guests::place_of))]
+pub fn place_of(line: &Line) -> Option<u64>
+    ensures { result ≡ place_of line.now }
+{
+    match line {
+        Line::Done { place, .. } => Some(*place),
+        _ => None,
     }
 }
 
@@ -44,7 +42,7 @@ fn is_done_at(
     };
     done_by(
         target_of(calls, holds, asked),
-        line.line.place(),
+        place_of(&line.line),
         file,
         place as u64,
     )
@@ -161,7 +159,7 @@ impl<'a> Entries<'a> {
         let Some(asked) = pick(calls, call) else {
             return true;
         };
-        let Some(place) = line.place() else {
+        let Some(place) = place_of(line) else {
             return true;
         };
         match target_of(calls, guest_holds(self.script, self.holds, guest), asked) {

@@ -11,7 +11,7 @@ use crate::answers::{is_given_up, is_live, seen_of, sizes_of};
 use crate::looks::Look;
 use crate::picks::pick;
 use crate::replays::Replay;
-use crate::rules::{guest_calls, guest_holds, guest_lines};
+use crate::rules::{guest_calls, guest_holds, guest_lines, place_of};
 use crate::tests_of::CallTest;
 use crate::verdicts::Grant;
 use crate::ways::{grant_in, log_of};
@@ -114,7 +114,7 @@ fn place_on(calls: &[Call], holds: &[usize], file: u32, call: &Call, line: &Numb
     if to.file != file {
         return None;
     }
-    line.line.place()
+    place_of(&line.line)
 }
 
 // The guest's next place in a file behind a call of it.

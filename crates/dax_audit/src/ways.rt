@@ -18,19 +18,17 @@ use plain_file::{Through, Way};
 use range_tree::LogEntry;
 use transcript_text::{EntryLine, Line, Numbered, Transcript};
 
-impl Line {
-    /// What a granted hold has.
-    #[tactic(auto, unfolding(crate::specs::Guests::grant_of))]
-    pub fn grant(&self) -> Option<Grant>
-        ensures { result ≡ grant_of self.now }
-    {
-        match self {
-            Line::Held { end, through } => Some(Grant {
-                end: *end,
-                through: *through,
-            }),
-            _ => None,
-        }
+/// What a granted hold has.
+#[tactic(auto, unfolding(crate::specs::Guests::grant_of))]
+pub fn grant_of(line: &Line) -> Option<Grant>
+    ensures { result ≡ grant_of line.now }
+{
+    match line {
+        Line::Held { end, through } => Some(Grant {
+            end: *end,
+            through: *through,
+        }),
+        _ => None,
     }
 }
 
@@ -41,7 +39,7 @@ pub fn grant_in(calls: &[Call], holds: &[usize], lines: &[Numbered], hold: u32) 
 {
     let place = pick(holds, hold as usize)?;
     let line = pick(lines, *place)?;
-    line.line.grant()
+    grant_of(&line.line)
 }
 
 /// The placement log of a file; empty where there is no such file.

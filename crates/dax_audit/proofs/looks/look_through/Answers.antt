@@ -97,8 +97,8 @@ loop-at-preserved c =
     record {
       seen = c.in_ok-push.ensures.items ∙ ap (λ (xs : List ℕ). xs ++ c.seen_now.result ∷ []) inv.seen ∙ ap (λ x. map (seen_at cs ls) (range_with_len 0 i) ++ x ∷ []) saw ∙ sym more_seen;
       given = c.in_ok-push-2.ensures.items ∙ ap (λ (xs : List Bool). xs ++ c.given_now.result ∷ []) inv.given ∙ ap (λ x. map (given_at cs ls) (range_with_len 0 i) ++ x ∷ []) gave ∙ sym more_given;
-      files = ap length c.note_place.ensures ∙ noted_length c.loop-at.last.items to c.place.result ∙ inv.files;
-      last = λ f h. ap (λ (xs : List ℕ). get_or xs f 0) c.note_place.ensures ∙ seen_on cs ls i call n c.loop-at.last.items to c.place.result f at there c.target_of-to.ensures c.place.ensures small (inv.last f h);
+      files = ap length c.note_place.ensures ∙ noted_length c.loop-at.last.items to c.place_of.result ∙ inv.files;
+      last = λ f h. ap (λ (xs : List ℕ). get_or xs f 0) c.note_place.ensures ∙ seen_on cs ls i call n c.loop-at.last.items to c.place_of.result f at there c.target_of-to.ensures c.place_of.ensures small (inv.last f h);
       holds = ap length c.note_release.ensures ∙ back_length c.loop-at.released.items call n.line ∙ inv.holds;
       released = λ h k. ap (λ (xs : List Bool). get_or xs h false) c.note_release.ensures ∙ given_on cs ls i call n c.loop-at.released.items h at there (omega (arith, k, inv.holds)) (inv.released h k);
     }
