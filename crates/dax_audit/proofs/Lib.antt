@@ -11,3 +11,4 @@ pub mod Taled
 pub mod Audited
 pub mod Fitted
 pub mod Lived
+pub mod AuditExamples

@@ -2,7 +2,7 @@ use Rattle.std.proofs.Common.{◌≡◌, ◌∙◌, ap, sym, length, slice_get, 
 use Rattle.dax_script.specs.Asks.{calls_of}
 use Rattle.dax_audit.specs.Rules.{lines_of}
 use Rattle.dax_audit.specs.Tables.{windowed_by, sizes_in, log_in, seen_in}
-use Rattle.dax_audit.proofs.Lived.{file_within, log_there}
+use Rattle.dax_audit.proofs.Lived.{log_there}
 use Rattle.dax_audit.proofs.Wayed.{place_within, came_windowed}
 use Rattle.dax_audit.proofs.ways.WaysEntryTest.meets.Goals as goal
 
