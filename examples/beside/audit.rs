@@ -106,6 +106,10 @@ fn number(word: &[u8]) -> Option<u64> {
     Some(n)
 }
 
+fn small(word: &[u8]) -> Option<u32> {
+    u32::try_from(number(word)?).ok()
+}
+
 fn digit(b: u8) -> Option<u8> {
     match b {
         b'0'..=b'9' => Some(b - b'0'),
@@ -202,13 +206,12 @@ fn way(words: &[&[u8]]) -> Option<Way> {
 }
 
 fn log(words: &[&[u8]]) -> Option<Log> {
-    let range = |word: &[u8]| u32::try_from(number(word)?).ok();
     Some(match words {
         [b"place", chunk, b"in", r, mode] if *mode == b"r" || *mode == b"w" => {
-            Log::Place { chunk: number(chunk)?, range: range(r)?, writes: *mode == b"w" }
+            Log::Place { chunk: small(chunk)? as u64, range: small(r)?, writes: *mode == b"w" }
         }
-        [b"upgrade", r] => Log::Upgrade { range: range(r)? },
-        [b"remove", r] => Log::Remove { range: range(r)? },
+        [b"upgrade", r] => Log::Upgrade { range: small(r)? },
+        [b"remove", r] => Log::Remove { range: small(r)? },
         _ => return None,
     })
 }
@@ -216,13 +219,13 @@ fn log(words: &[&[u8]]) -> Option<Log> {
 fn line_of(words: &[&[u8]]) -> Option<Line> {
     Some(match words {
         [b"done", p, b"bytes", b"-"] => Line::Done { place: number(p)?, answer: Answer::Bytes(Vec::new()) },
-        [b"done", p, b"bytes", bytes] => Line::Done { place: number(p)?, answer: Answer::Bytes(hex(bytes)?) },
+        [b"done", p, b"bytes", bytes] => Line::Done { place: number(p)?, answer: Answer::Bytes(hex(bytes).filter(|b| !b.is_empty())?) },
         [b"done", p, b"wrote", n] => Line::Done { place: number(p)?, answer: Answer::Wrote(number(n)?) },
         [b"done", p, b"size", n] => Line::Done { place: number(p)?, answer: Answer::Size(number(n)?) },
         [b"held", z, b"via", k, m] => Line::Held { end: number(z)?, entry: number(k)?, upto: number(m)? },
         [b"released"] => Line::Released,
         [b"busy", letters] if letters.iter().all(|b| matches!(b, b'p' | b'm')) => Line::Busy { letters: letters.to_vec() },
-        [b"leased", n] => Line::Leased { count: number(n)? },
+        [b"leased", n] => Line::Leased { count: small(n)? as u64 },
         [b"nohold"] => Line::NoHold,
         [b"past", z] => Line::Past { end: number(z)? },
         _ => return None,
@@ -235,27 +238,32 @@ fn read_transcript(text: &[u8]) -> Option<Transcript> {
         return None;
     }
     let mut t = Transcript { ranges: 0, files: Vec::new(), guests: Vec::new(), end: 0 };
-    t.ranges = number(lines.next()?.strip_prefix(b"ranges ")?)?;
+    t.ranges = small(lines.next()?.strip_prefix(b"ranges ")?)? as u64;
     let mut words = Vec::new();
-    for (n, line) in lines.enumerate() {
+    for (n, line) in lines.by_ref().enumerate() {
         words.clear();
         words.extend(line.split(|b| *b == b' '));
         match words[0] {
-            b"file" => t.files.push(Part { head: head(&words[1..])?, entries: Vec::new(), log: Vec::new(), line: n as u64 + 3 }),
-            b"entry" => {
-                let (guest, call) = (number(words.get(1)?)? as usize, number(words.get(2)?)? as usize);
-                t.files.last_mut()?.entries.push(Entry { guest, call, way: way(&words[3..])? });
+            b"file" if t.guests.is_empty() && words.len() == 4 => t.files.push(Part { head: head(&words[1..])?, entries: Vec::new(), log: Vec::new(), line: n as u64 + 3 }),
+            b"entry" if t.guests.is_empty() => {
+                let part = t.files.last_mut()?;
+                if !part.log.is_empty() {
+                    return None;
+                }
+                let (guest, call) = (small(words.get(1)?)? as usize, small(words.get(2)?)? as usize);
+                part.entries.push(Entry { guest, call, way: way(words.get(3..)?)? });
             }
-            b"log" => t.files.last_mut()?.log.push(log(&words[1..])?),
-            b"guest" => t.guests.push(GuestPart { number: number(words.get(1)?)?, lines: Vec::new(), line: n as u64 + 3 }),
-            b"end" => {
+            b"log" if t.guests.is_empty() => t.files.last_mut()?.log.push(log(&words[1..])?),
+            b"guest" if words.len() == 2 => t.guests.push(GuestPart { number: small(words.get(1)?)? as u64, lines: Vec::new(), line: n as u64 + 3 }),
+            b"end" if words.len() == 1 => {
                 t.end = n as u64 + 3;
-                return Some(t);
+                break;
             }
-            call => t.guests.last_mut()?.lines.push((number(call)? as usize, line_of(&words[1..])?)),
+            call => t.guests.last_mut()?.lines.push((small(call)? as usize, line_of(&words[1..])?)),
         }
     }
-    None
+    let nothing: &[u8] = b"";
+    if t.end > 0 && lines.next() == Some(nothing) && lines.next().is_none() { Some(t) } else { None }
 }
 
 // ---- what is looked up
