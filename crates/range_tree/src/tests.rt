@@ -74,3 +74,35 @@ fn places_and_tells(rt: HostRuntime) -> Result<(), Fail> {
     assert!(&rt; tree.log() == &log[..]);
     Ok(())
 }
+
+#[test]
+fn tells_what_is_live(rt: HostRuntime) -> Result<(), Fail> {
+    let log = [
+        place(3, 1, Mode::R),
+        place(4, 4_294_967_295, Mode::W),
+        LogEntry::Upgrade { range: 1 },
+        LogEntry::Remove { range: 1 },
+        place(3, 1, Mode::R),
+    ];
+    // The chunk, the entry, the log's length, and whether it may be read and written there.
+    let table = [
+        (3, 0, 0, false, false),
+        (3, 0, 1, true, false),
+        (3, 0, 2, true, false),
+        (3, 0, 3, true, true),
+        (3, 0, 4, false, false),
+        (4, 0, 2, false, false),
+        (4, 1, 5, true, true),
+        (3, 2, 3, false, false),
+        (3, 4, 5, true, false),
+        (3, 4, 6, false, false),
+        (3, 5, 5, false, false),
+    ];
+    let lives = Lives::new(rt.alloc(), &log)?;
+    for (chunk, entry, upto, reads, writes) in &table {
+        assert_eq!(&rt; lives.is_live(false, *chunk, *entry, *upto), *reads);
+        assert_eq!(&rt; lives.is_live(true, *chunk, *entry, *upto), *writes);
+        assert_eq!(&rt; is_live(true, &log, *chunk, *entry, *upto), *writes);
+    }
+    Ok(())
+}
