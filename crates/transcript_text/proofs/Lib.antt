@@ -5,3 +5,4 @@ pub mod Printed
 pub mod Drafted
 pub mod Named
 pub mod LinesRead
+pub mod Bounds

@@ -6,6 +6,7 @@
 #![tactic(auto)]
 
 mod drafts;
+mod fits;
 mod laws;
 mod parsing;
 mod printing;
