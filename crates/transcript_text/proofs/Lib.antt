@@ -6,3 +6,5 @@ pub mod Drafted
 pub mod Named
 pub mod LinesRead
 pub mod Bounds
+pub mod LinesFrom
+pub mod TextFits
