@@ -11,6 +11,8 @@ mod laws;
 mod parsing;
 mod printing;
 mod reading;
+#[cfg(test)]
+mod tests;
 mod transcripts;
 
 pub use laws::{fits_is_what_texts_give, text_determines_transcript};
