@@ -1,5 +1,5 @@
 -- A transcript is within its bounds exactly where the test says so.
-use Rattle.std.proofs.Common.{◌≡◌, ◌↔◌, refl, ℕ, suc, ◌<◌, ◌^◌, ◌==◌, ◌&&◌, Bool, true, nat_lt, List, [], ◌∷◌, Some, None, get_or, Fits, w8, arith, tests}
+use Rattle.std.proofs.Common.{◌≡◌, refl, ℕ, suc, ◌<◌, ◌==◌, ◌&&◌, Bool, true, nat_lt, List, [], ◌∷◌, Some, None, get_or, Fits, w8, arith, tests}
 use Rattle.std.proofs.lemmas.Bool.{and_parts, and_from}
 use Rattle.std.specs.List.{AllByRecursion, list_all}
 use Rattle.plain_file.specs.declared.operations.Answer.{Answer}

@@ -1,5 +1,5 @@
 -- A draft and the rest of a text, line by line.
-use Rattle.std.proofs.Common.{◌≡◌, ◌∙◌, ap, sym, refl, ℕ, ◌+◌, ◌==◌, Bool, true, false, is_some, List, [], ◌∷◌, length, codes, position, take, drop, arith, tests, Option, Some, None, Result, Ok, Err, if◌then◌else◌, Bor}
+use Rattle.std.proofs.Common.{◌≡◌, ◌∙◌, ap, sym, refl, ℕ, ◌+◌, ◌==◌, Bool, true, false, is_some, List, [], ◌∷◌, length, codes, position, take, drop, arith, tests, Option, Some, None, Ok, Err, if◌then◌else◌, Bor}
 use Rattle.plain_text.specs.Words.{parts, space, line_end, is_byte}
 use Rattle.plain_text.proofs.Parts.{parts_alone, parts_first, parts_some}
 use Rattle.transcript_text.specs.declared.transcripts.Transcript.{Transcript}

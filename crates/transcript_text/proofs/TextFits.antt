@@ -1,8 +1,7 @@
 -- What a text gives is within the bounds of transcripts.
-use Rattle.std.proofs.Common.{◌≡◌, ◌↔◌, refl, ℕ, ◌+◌, ◌-◌, ◌<◌, ◌≤◌, ◌^◌, ◌==◌, ◌&&◌, Bool, true, false, nat_lt, List, [], ◌∷◌, ◌++◌, length, codes, Option, Some, None, IfSome, Result, Ok, Err, if◌then◌else◌, arith, tests}
+use Rattle.std.proofs.Common.{◌≡◌, ◌↔◌, refl, ℕ, ◌+◌, ◌-◌, ◌<◌, ◌≤◌, ◌^◌, ◌==◌, Bool, true, false, nat_lt, List, [], ◌∷◌, ◌++◌, length, codes, Option, Some, None, IfSome, Result, Ok, Err, if◌then◌else◌, arith, tests}
 use Rattle.std.specs.Prelude.{option_map}
-use Rattle.std.proofs.lemmas.Bool.{and_parts}
-use Rattle.std.specs.List.{AllByRecursion, list_all}
+use Rattle.std.specs.List.{AllByRecursion}
 use Rattle.std.specs.Result.{IfOk}
 use Rattle.std.proofs.lemmas.Result.{IfOk-at_ok}
 use Rattle.std.specs.Str.{bytes_eq}
@@ -10,27 +9,21 @@ use Rattle.plain_text.specs.Words.{parts, space, line_end}
 use Rattle.plain_text.specs.Numbers.{number_of, number_within}
 use Rattle.plain_text.specs.Hexadecimal.{hex_pairs, hex_of}
 use Rattle.plain_text.specs.Options.{◌>>=◌}
-use Rattle.plain_text.proofs.CleanWords.{IsCleanWord}
-use Rattle.plain_file.specs.declared.operations.Answer.{Answer}
-use Rattle.plain_file.specs.declared.operations.Answer.TheVariants as answers
-use Rattle.plain_file.specs.declared.operations.Way.{Way}
 use Rattle.plain_file.specs.declared.operations.Way.TheVariants as ways
 use Rattle.page_map.specs.declared.ranges.LogEntry.{LogEntry}
-use Rattle.page_map.specs.declared.ranges.LogEntry.TheVariants as logs
 use Rattle.dax_script.specs.ScriptWords.{is_script_name}
 use Rattle.dax_script.specs.Fits.{are_bytes}
 use Rattle.dax_script.proofs.ReadWords.{bind_yields, if_some, pairs_yield}
 use Rattle.transcript_text.specs.declared.transcripts.EntryLine.{EntryLine}
 use Rattle.transcript_text.specs.declared.transcripts.FilePart.{FilePart}
 use Rattle.transcript_text.specs.declared.transcripts.GuestPart.{GuestPart}
-use Rattle.transcript_text.specs.declared.transcripts.Line.{Line}
 use Rattle.transcript_text.specs.declared.transcripts.Line.TheVariants as lines
 use Rattle.transcript_text.specs.declared.transcripts.Numbered.{Numbered}
 use Rattle.transcript_text.specs.declared.transcripts.Transcript.{Transcript}
 use Rattle.transcript_text.specs.declared.transcripts.BadTranscript.{BadTranscript}
 use Rattle.transcript_text.specs.TranscriptText.{text_of}
 use Rattle.transcript_text.specs.TranscriptReading.{number_32, number_64, only_byte, bytes_of, through_of, way_of, answer_of_words, is_letters, via_of, mode_of, log_of_words, line_of_words, numbered_of, entry_of_words, file_of_words, guest_of_words, Reading, Start, Version, Parts, Ended, onto_last, with_entry, with_log, with_line, version_read, ranges_read, file_read, entry_read, log_read, guest_read, call_read, end_read, line_read, or_line, whole, transcript_from, transcript_of, IsPrintableThrough, IsPrintableWay, IsPrintableEntry, IsPrintableLog, IsPrintableFile, IsPrintableAnswer, IsPrintableLine, IsPrintableNumbered, IsPrintableGuest, IsPrintable}
-use Rattle.transcript_text.specs.Fits.{fits_8, fits}
+use Rattle.transcript_text.specs.Fits.{fits}
 use Rattle.transcript_text.proofs.Bounds.{bytes_from, transcript_from_test, test_from_transcript}
 use Rattle.transcript_text.proofs.ReadAgain.{transcript_of-text_of}
 

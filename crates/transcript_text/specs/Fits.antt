@@ -1,5 +1,5 @@
 -- Whether a transcript is within the bounds of the form and of its fields' types, as exactly those are that some text gives.
-use Rattle.std.specs.Prelude.{ℕ, ◌^◌, ◌==◌, ◌&&◌, Bool, true, nat_lt, List, Some, None}
+use Rattle.std.specs.Prelude.{ℕ, ◌^◌, ◌==◌, ◌&&◌, Bool, true, nat_lt, Some, None}
 use Rattle.std.specs.List.{list_all}
 use Rattle.plain_file.specs.declared.operations.Answer.{Answer}
 use Rattle.plain_file.specs.declared.operations.Answer.TheVariants as answers

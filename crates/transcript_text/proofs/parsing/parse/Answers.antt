@@ -1,6 +1,6 @@
 use Rattle.std.proofs.Common.{◌≡◌, Ok, IfOk, arith, rules}
 use Rattle.std.proofs.lemmas.Grind.{common_steps}
-use Rattle.transcript_text.specs.TranscriptReading.{transcript_of, transcript_from, or_line, whole}
+use Rattle.transcript_text.specs.TranscriptReading.{transcript_of, whole}
 use Rattle.transcript_text.proofs.TextFits.{parsed_fits}
 use Rattle.transcript_text.proofs.parsing.parse.Goals as goal
 
