@@ -246,7 +246,7 @@ fn via(verb: &[u8], more: Option<&[u8]>) -> Option<Through>
     through(entry, upto)
 }
 
-fn are_letters(word: &[u8]) -> bool
+pub(crate) fn are_letters(word: &[u8]) -> bool
     ensures { result ≡ is_letters word.now }
 {
     !word.is_empty() && has_letters(word)
@@ -427,7 +427,7 @@ fn has_name_bytes(word: &[u8]) -> bool
         .all(|b| matches!(*b, b'a'..=b'z' | b'0'..=b'9' | b'_' | b'-'))
 }
 
-fn has_name_form(word: &[u8]) -> bool
+pub(crate) fn has_name_form(word: &[u8]) -> bool
     ensures { result ≡ is_script_name word.now }
 {
     !word.is_empty() && word.len() <= 32 && has_name_bytes(word)
