@@ -9,3 +9,5 @@ pub mod Replayed
 pub mod Wayed
 pub mod Taled
 pub mod Audited
+pub mod Fitted
+pub mod Lived

@@ -29,6 +29,7 @@ use Rattle.dax_audit.specs.declared.verdicts.Grant.{Grant}
 use Rattle.transcript_text.specs.declared.transcripts.Numbered.{Numbered}
 use Rattle.page_map.specs.declared.ranges.LogEntry.{LogEntry}
 use Rattle.plain_file.specs.declared.operations.Through.{Through}
+use Rattle.range_tree.specs.declared.lives.Lives.{Lives}
 use Rattle.plain_file.specs.declared.operations.Way.{Way}
 use Rattle.plain_file.specs.declared.operations.Way.TheVariants as ways
 use Rattle.std.specs.declared.alloc.Global.{Global}
@@ -152,6 +153,18 @@ no_log (Some part) = part.log
 
 unfoldable pub log_in : Transcript → ℕ → List LogEntry
 log_in t file = no_log (slice_get t.files file)
+
+abbrev pub no_lives : Option Lives → List LogEntry
+no_lives None = []
+no_lives (Some l) = l.log.now
+
+-- the log of a file by the tables of all files; empty where there is no such file
+unfoldable pub lives_in : List Lives → ℕ → List LogEntry
+lives_in lives file = no_lives (slice_get lives file)
+
+-- per file of a transcript its log
+abbrev pub AreLives : Transcript → List Lives → Type 0
+AreLives t lives = map (λ l. l.log.now) lives ≡ map (λ part. part.log) t.files
 
 -- what a guest has of a hold that a call uses, by whether it was given up before
 unfoldable pub had_by : Bool → List Call → List Numbered → Option ℕ → Option Grant

@@ -1,5 +1,5 @@
 ghost use Rattle.std.specs.Prelude.{◌≡◌, ◌≤◌, ◌<◌, ◌+◌, ◌-◌, ◌==◌, ℕ, Bool, true, List, length, take, drop, slice_get, Some};
-ghost use Rattle.dax_audit.specs.Tables.{right_in, sizes_in, seen_in, given_in, fresh_in, write_by};
+ghost use Rattle.dax_audit.specs.Tables.{right_in, sizes_in, seen_in, given_in, fresh_in, write_by, lives_in};
 ghost use Rattle.range_tree.specs.Logs.{is_live};
 ghost use Rattle.dax_audit.specs.Rules.{covers, chunks, pairs_of, is_req};
 ghost use Rattle.plain_file.specs.File.{max_file};
@@ -9,7 +9,7 @@ use crate::picks::pick;
 use crate::replays::Replay;
 use dax_script::CHUNK;
 use plain_file::{Through, Way};
-use range_tree::LogEntry;
+use range_tree::Lives;
 
 #[tactic(auto, unfolding(crate::specs::Tables::right_in))]
 pub fn is_right_at(replays: &[Replay], file: usize, place: u64) -> bool
@@ -71,21 +71,31 @@ pub fn is_among(sizes: &[u64], low: u128, high: u64, z: u64) -> bool
     if low > high as u128 {
         return false;
     }
-    sizes[low as usize..=high as usize].iter().any(|x| *x == z)
+    sizes[low as usize..=high as usize].contains(&z)
 }
 
-/// Whether a placement of a log is live, and for `write` also writable.
-pub fn is_live(write: bool, log: &[LogEntry], chunk: u64, through: &Through) -> bool
-    ensures { result ≡ is_live write log.now chunk through.now.entry through.now.upto }
+/// Whether a placement of a file's log is live, and for `write` also writable; false where there is no such file.
+#[tactic(auto, using(crate::proofs::Lived::nothing_lives), unfolding(crate::specs::Tables::lives_in))]
+pub fn is_live_in(
+    write: bool,
+    lives: &[Lives<'_>],
+    file: usize,
+    chunk: u64,
+    through: &Through,
+) -> bool
+    ensures { result ≡ is_live write (lives_in lives.now file) chunk through.now.entry through.now.upto }
 {
-    range_tree::is_live(write, log, chunk, through.entry, through.upto)
+    match pick(lives, file) {
+        Some(lives) => lives.is_live(write, chunk, through.entry, through.upto),
+        None => false,
+    }
 }
 
 /// Whether a way names one live placement for each chunk of an interval, in order.
 #[tactic(auto, unfolding(crate::specs::Rules::covers, crate::specs::Rules::chunks, crate::specs::Rules::pairs_of))]
-pub fn covers(write: bool, log: &[LogEntry], off: u64, len: u64, way: &Way) -> bool
+pub fn covers(write: bool, lives: &Lives<'_>, off: u64, len: u64, way: &Way) -> bool
     requires { off + len ≤ max_file }
-    ensures { result ≡ covers write log.now (chunks off len) (pairs_of way.now) }
+    ensures { result ≡ covers write lives.now.log.now (chunks off len) (pairs_of way.now) }
 {
     let first = off / CHUNK;
     let last = (off + len).saturating_sub(1) / CHUNK;
@@ -93,10 +103,10 @@ pub fn covers(write: bool, log: &[LogEntry], off: u64, len: u64, way: &Way) -> b
         return false;
     };
     match more {
-        None => first == last && is_live(write, log, first, k),
+        None => first == last && lives.is_live(write, first, k.entry, k.upto),
         Some(m) => first != last
-            && is_live(write, log, first, k)
-            && is_live(write, log, first + 1, m),
+            && lives.is_live(write, first, k.entry, k.upto)
+            && lives.is_live(write, first + 1, m.entry, m.upto),
     }
 }
 
@@ -104,7 +114,7 @@ pub fn covers(write: bool, log: &[LogEntry], off: u64, len: u64, way: &Way) -> b
 #[tactic(auto, unfolding(crate::specs::Tables::write_by))]
 pub fn is_write_way(
     sizes: &[u64],
-    log: &[LogEntry],
+    lives: &Lives<'_>,
     seen: u128,
     place: usize,
     off: u64,
@@ -113,11 +123,11 @@ pub fn is_write_way(
 ) -> bool
     requires within { place < length sizes.now }
     requires small { off + len ≤ max_file }
-    ensures { result ≡ write_by sizes.now log.now seen place off len way.now }
+    ensures { result ≡ write_by sizes.now lives.now.log.now seen place off len way.now }
 {
     match way {
         Way::Req => false,
         Way::ReqSaw(z) => *z < off + len && is_among(sizes, seen, place as u64, *z),
-        Way::Via(..) => off + len <= sizes[place] && covers(true, log, off, len, way),
+        Way::Via(..) => off + len <= sizes[place] && covers(true, lives, off, len, way),
     }
 }

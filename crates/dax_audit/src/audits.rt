@@ -1,15 +1,17 @@
-ghost use Rattle.std.specs.Prelude.{◌≡◌, ◌≤◌, ◌<◌, ◌+◌, ◌^◌, ℕ, length, map, slice_get, Some, IfOk, IfSome};
+ghost use Rattle.std.specs.Prelude.{◌≡◌, true, ◌≤◌, ◌<◌, ◌+◌, ◌^◌, ℕ, length, map, slice_get, Some, IfOk, IfSome};
 ghost use Rattle.std.specs.List.{position_from};
 ghost use Rattle.plain_file.specs.File.{max_file};
 ghost use Rattle.range_tree.specs.Logs.{unsound_at};
 ghost use Rattle.dax_script.specs.Asks.{hold_places, calls_of};
+ghost use Rattle.dax_script.specs.Fits.{fits};
 ghost use Rattle.transcript_text.specs.declared.transcripts.FilePart.{FilePart};
 ghost use Rattle.dax_audit.specs.Items.{items};
 ghost use Rattle.dax_audit.specs.Rules.{breaks_files, breaks_guests, breaks_forms, breaks_entries, breaks_order, breaks_replies, breaks_ways, breaks_tales, breaks_logs};
 ghost use Rattle.dax_audit.specs.Tables.{AreHolds};
-ghost use Rattle.dax_audit.specs.Tables.{StaysWithin, AreReplays, AreLooks, AreLooksTo, AreNamed, HaveEntries, IsSound, verdict_of};
+ghost use Rattle.dax_audit.specs.Tables.{StaysWithin, AreReplays, AreLooks, AreLives, AreLooksTo, AreNamed, HaveEntries, IsSound, verdict_of};
 ghost use Rattle.dax_audit.specs.Legal.{fault};
 
+use crate::counts::count_lines;
 use crate::line_rules::{Forms, Order, Replies};
 use crate::looks::{Look, look_through};
 use crate::part_rules::{Files, Guests, Logs, unsound_places};
@@ -22,6 +24,7 @@ use crate::walks::first_broken;
 use crate::ways::Ways;
 use dax_script::{Script, hold_places};
 use plain_file::Memory;
+use range_tree::Lives;
 use std::alloc::Global;
 use transcript_text::Transcript;
 
@@ -77,6 +80,16 @@ fn all_looks(
         guest += 1;
     }
     Ok(looks)
+}
+
+fn all_lives(alloc: Global, t: &Transcript) -> Result<Vec<Lives<'_>>, Memory>
+    ensures { IfOk result (λ v. AreLives t.now v.items) }
+{
+    let mut lives = Vec::new(alloc);
+    for part in t.files.as_slice() {
+        lives.push(Lives::new(alloc, part.log.as_slice())?)?;
+    }
+    Ok(lives)
 }
 
 fn rule_1(script: &Script, t: &Transcript) -> Option<u64>
@@ -158,12 +171,14 @@ fn rule_7(
     holds: &[Vec<usize>],
     looks: &[Look],
     replays: &[Replay],
+    lives: &[Lives<'_>],
 ) -> Option<u64>
     requires few { length (items t.now) + 1 < 2 ^ 64 }
     requires holds { AreHolds script.now holds.now }
     requires replays { AreReplays script.now t.now replays.now }
     requires looks { AreLooks script.now t.now looks.now }
     requires named { AreNamed script.now t.now }
+    requires lives { AreLives t.now lives.now }
     requires within { StaysWithin script.now }
     ensures { result ≡ position_from (breaks_ways script.now t.now) 1 (items t.now) }
 {
@@ -176,6 +191,7 @@ fn rule_7(
                 holds,
                 looks,
                 replays,
+                lives,
             },
         },
     )
@@ -187,11 +203,13 @@ fn rule_8(
     holds: &[Vec<usize>],
     looks: &[Look],
     replays: &[Replay],
+    lives: &[Lives<'_>],
 ) -> Option<u64>
     requires few { length (items t.now) + 1 < 2 ^ 64 }
     requires holds { AreHolds script.now holds.now }
     requires replays { AreReplays script.now t.now replays.now }
     requires looks { AreLooks script.now t.now looks.now }
+    requires lives { AreLives t.now lives.now }
     requires within { StaysWithin script.now }
     ensures { result ≡ position_from (breaks_tales script.now t.now) 1 (items t.now) }
 {
@@ -204,6 +222,7 @@ fn rule_8(
                 holds,
                 looks,
                 replays,
+                lives,
             },
         },
     )
@@ -217,9 +236,20 @@ fn rule_9(script: &Script, t: &Transcript, unsound: &[Option<u64>]) -> Option<u6
     first_broken(t, &Logs { script, t, unsound })
 }
 
-/// Whether a transcript is legal for a script; else its first fault.
-#[tactic(auto, using(crate::proofs::Exactly::are_named, crate::proofs::Exactly::have_entries), unfolding(crate::specs::Legal::fault, crate::specs::Legal::the_rules, crate::specs::Legal::first_fault))]
+/// Whether a transcript is legal for a script that fits; else its first fault. `Memory` comes where an
+/// allocation was refused, and where the transcript has 2^64 - 1 lines or more.
 pub fn audit(alloc: Global, script: &Script, t: &Transcript) -> Result<Verdict, Memory>
+    requires fits { fits script.now ≡ true }
+    ensures { IfOk result (λ v. v ≡ verdict_of (fault script.now t.now)) }
+{
+    if count_lines(t) == u64::MAX {
+        return Err(Memory);
+    }
+    find_fault(alloc, script, t)
+}
+
+#[tactic(auto, using(crate::proofs::Exactly::are_named, crate::proofs::Exactly::have_entries), unfolding(crate::specs::Legal::fault, crate::specs::Legal::the_rules, crate::specs::Legal::first_fault))]
+fn find_fault(alloc: Global, script: &Script, t: &Transcript) -> Result<Verdict, Memory>
     requires sound { IsSound script.now }
     requires few { length (items t.now) + 1 < 2 ^ 64 }
     ensures { IfOk result (λ v. v ≡ verdict_of (fault script.now t.now)) }
@@ -245,10 +275,11 @@ pub fn audit(alloc: Global, script: &Script, t: &Transcript) -> Result<Verdict, 
     if let Some(line) = rule_6(script, t, &holds, &replays) {
         return Ok(Verdict::Fault { rule: 6, line });
     }
-    if let Some(line) = rule_7(script, t, &holds, &looks, &replays) {
+    let lives = all_lives(alloc, t)?;
+    if let Some(line) = rule_7(script, t, &holds, &looks, &replays, &lives) {
         return Ok(Verdict::Fault { rule: 7, line });
     }
-    if let Some(line) = rule_8(script, t, &holds, &looks, &replays) {
+    if let Some(line) = rule_8(script, t, &holds, &looks, &replays, &lives) {
         return Ok(Verdict::Fault { rule: 8, line });
     }
     let unsound = unsound_places(alloc, t)?;

@@ -8,6 +8,7 @@
 
 mod answers;
 mod audits;
+mod counts;
 mod laws;
 mod line_rules;
 mod looks;

@@ -5,19 +5,20 @@ ghost use Rattle.dax_script.specs.Asks.{hold_places, target, hold_in, held_of, o
 ghost use Rattle.dax_audit.specs.Guests.{place_on, places_on, next_place, first_place};
 ghost use Rattle.dax_audit.specs.Rules.{access_end, is_within, is_past, grants, pasts, lines_of, tells_at, line_at};
 ghost use Rattle.dax_audit.specs.Tables.{AreHolds};
-ghost use Rattle.dax_audit.specs.Tables.{end_of, deed_from, had_by, tells_by, end_in, given_in, StaysWithin, AreReplays, AreLooks, held_line, granted_line};
+ghost use Rattle.dax_audit.specs.Tables.{end_of, deed_from, had_by, tells_by, end_in, given_in, StaysWithin, AreReplays, AreLooks, AreLives, held_line, granted_line};
 
-use crate::answers::{is_given_up, is_live, seen_of, sizes_of};
+use crate::answers::{is_given_up, is_live_in, seen_of, sizes_of};
 use crate::looks::Look;
 use crate::picks::pick;
 use crate::replays::Replay;
 use crate::rules::{guest_calls, guest_holds, guest_lines, place_of};
 use crate::tests_of::CallTest;
 use crate::verdicts::Grant;
-use crate::ways::{grant_in, log_of};
+use crate::ways::grant_in;
 use dax_script::{CHUNK, Call, Held, Script, Target, target_of};
 use page_map::Mode;
 use plain_file::Through;
+use range_tree::Lives;
 use transcript_text::{Line, Numbered, Transcript};
 
 // What a guest has of the hold that a call uses.
@@ -165,6 +166,7 @@ pub struct Tales<'a> {
     pub holds: &'a [Vec<usize>],
     pub looks: &'a [Look],
     pub replays: &'a [Replay],
+    pub lives: &'a [Lives<'a>],
 }
 
 // The last place that a hold may have seen.
@@ -196,6 +198,7 @@ impl<'a> Tales<'a> {
         requires holds { AreHolds self.now.script.now self.now.holds.now }
         requires replays { AreReplays self.now.script.now self.now.t.now self.now.replays.now }
         requires looks { AreLooks self.now.script.now self.now.t.now self.now.looks.now }
+        requires lives { AreLives self.now.t.now self.now.lives.now }
         requires asked { slice_get (calls_of self.now.script.now guest) call ≡ Some asked.now }
         requires line { line_at self.now.t.now guest call ≡ Some (held_line end through.now) }
         ensures { result ≡ grants (pasts self.now.script.now self.now.t.now) (calls_of self.now.script.now guest) (lines_of self.now.t.now guest) call (held_of asked.now) end through.now }
@@ -204,9 +207,10 @@ impl<'a> Tales<'a> {
             return false;
         };
         let file = held.file as usize;
-        if !is_live(
+        if !is_live_in(
             is_written(held.mode),
-            log_of(self.t, file),
+            self.lives,
+            file,
             held.chunk as u64,
             through,
         ) {
@@ -235,11 +239,11 @@ impl<'a> Tales<'a> {
 impl<'a> CallTest for Tales<'a> {
     ghost use Rattle.dax_audit.specs.Rules.{tells_at};
     ghost use Rattle.dax_audit.specs.Tables.{AreHolds};
-    ghost use Rattle.dax_audit.specs.Tables.{AreReplays, AreLooks, StaysWithin};
+    ghost use Rattle.dax_audit.specs.Tables.{AreReplays, AreLooks, AreLives, StaysWithin};
 
     ghost of = { λ j. j.t.now };
 
-    ghost ready = { λ j. AreHolds j.script.now j.holds.now × AreReplays j.script.now j.t.now j.replays.now × AreLooks j.script.now j.t.now j.looks.now × StaysWithin j.script.now };
+    ghost ready = { λ j. AreHolds j.script.now j.holds.now × AreReplays j.script.now j.t.now j.replays.now × AreLooks j.script.now j.t.now j.looks.now × StaysWithin j.script.now × AreLives j.t.now j.lives.now };
 
     ghost asks = { λ j. tells_at j.script.now j.t.now };
 
@@ -264,6 +268,7 @@ impl<'a> Tales<'a> {
         requires holds { AreHolds self.now.script.now self.now.holds.now }
         requires replays { AreReplays self.now.script.now self.now.t.now self.now.replays.now }
         requires looks { AreLooks self.now.script.now self.now.t.now self.now.looks.now }
+        requires lives { AreLives self.now.t.now self.now.lives.now }
         requires asked { slice_get (calls_of self.now.script.now guest) call ≡ Some asked.now }
         requires line { line_at self.now.t.now guest call ≡ Some line.now }
         ensures { result ≡ granted_line (pasts self.now.script.now self.now.t.now) (calls_of self.now.script.now guest) (lines_of self.now.t.now guest) call asked.now line.now }

@@ -15,12 +15,12 @@ use crate::tests_of::EntryTest;
 use crate::verdicts::Grant;
 use dax_script::{CHUNK, Call, Held, Script, held_by};
 use plain_file::{Through, Way};
-use range_tree::LogEntry;
+use range_tree::Lives;
 use transcript_text::{EntryLine, Line, Numbered, Transcript};
 
 /// What a granted hold has.
 #[tactic(auto, unfolding(crate::specs::Guests::grant_of))]
-pub fn grant_of(line: &Line) -> Option<Grant>
+fn grant_of(line: &Line) -> Option<Grant>
     ensures { result ≡ grant_of line.now }
 {
     match line {
@@ -40,17 +40,6 @@ pub fn grant_in(calls: &[Call], holds: &[usize], lines: &[Numbered], hold: u32) 
     let place = pick(holds, hold as usize)?;
     let line = pick(lines, *place)?;
     grant_of(&line.line)
-}
-
-/// The placement log of a file; empty where there is no such file.
-#[tactic(auto, unfolding(crate::specs::Tables::log_in))]
-pub fn log_of(t: &Transcript, file: usize) -> &[LogEntry]
-    ensures { result.now ≡ log_in t.now file }
-{
-    match t.files.get(file) {
-        Some(part) => part.log.as_slice(),
-        None => &[],
-    }
 }
 
 #[tactic(auto, unfolding(crate::specs::Rules::is_req))]
@@ -73,7 +62,7 @@ fn is_one_pair(through: &Through, way: &Way) -> bool
 #[tactic(auto, unfolding(crate::specs::Rules::hold_way))]
 fn is_hold_way(
     write: bool,
-    log: &[LogEntry],
+    lives: &Lives<'_>,
     held: Option<Held>,
     grant: Option<Grant>,
     off: u64,
@@ -81,7 +70,7 @@ fn is_hold_way(
     way: &Way,
 ) -> bool
     requires { IfSome held (λ h. h.chunk * chunk_size + off + len ≤ max_file) }
-    ensures { result ≡ hold_way write log.now held grant off len way.now }
+    ensures { result ≡ hold_way write lives.now.log.now held grant off len way.now }
 {
     let Some(held) = held else {
         return false;
@@ -90,14 +79,14 @@ fn is_hold_way(
         return false;
     };
     is_one_pair(&grant.through, way)
-        && covers(write, log, held.chunk as u64 * CHUNK + off, len, way)
+        && covers(write, lives, held.chunk as u64 * CHUNK + off, len, way)
 }
 
 // Whether a call may have come this way, where there is a window.
 #[tactic(auto, unfolding(crate::specs::Tables::windowed_by, crate::specs::Tables::end_of, dax_script::specs::Asks::target, dax_script::specs::Asks::op_from))]
 fn is_windowed(
     sizes: &[u64],
-    log: &[LogEntry],
+    lives: &Lives<'_>,
     seen: u128,
     calls: &[Call],
     holds: &[usize],
@@ -109,16 +98,16 @@ fn is_windowed(
     requires holds { holds.now ≡ hold_places 0 calls.now }
     requires within { place < length sizes.now }
     requires small { end_of (deed_from (op_of calls.now call.now)) ≤ max_file }
-    ensures { result ≡ windowed_by sizes.now log.now seen calls.now lines.now place call.now way.now }
+    ensures { result ≡ windowed_by sizes.now lives.now.log.now seen calls.now lines.now place call.now way.now }
 {
     match call {
-        Call::Read { off, len, .. } => covers(false, log, *off, *len as u64, way),
+        Call::Read { off, len, .. } => covers(false, lives, *off, *len as u64, way),
         Call::Write { off, bytes, .. } => {
-            is_write_way(sizes, log, seen, place, *off, bytes.len() as u64, way)
+            is_write_way(sizes, lives, seen, place, *off, bytes.len() as u64, way)
         }
         Call::Fill { off, len, .. } => is_write_way(
             sizes,
-            log,
+            lives,
             seen,
             place,
             *off,
@@ -129,12 +118,12 @@ fn is_windowed(
         Call::Load { hold, off, len } => {
             let held = held_by(calls, holds, *hold);
             let grant = grant_in(calls, holds, lines, *hold);
-            is_hold_way(false, log, held, grant, *off, *len as u64, way)
+            is_hold_way(false, lives, held, grant, *off, *len as u64, way)
         }
         Call::Store { hold, off, bytes } => {
             let held = held_by(calls, holds, *hold);
             let grant = grant_in(calls, holds, lines, *hold);
-            is_hold_way(true, log, held, grant, *off, bytes.len() as u64, way)
+            is_hold_way(true, lives, held, grant, *off, bytes.len() as u64, way)
         }
         Call::Hold { .. } | Call::Release { .. } => false,
     }
@@ -148,16 +137,17 @@ pub struct Ways<'a> {
     pub holds: &'a [Vec<usize>],
     pub looks: &'a [Look],
     pub replays: &'a [Replay],
+    pub lives: &'a [Lives<'a>],
 }
 
 impl<'a> EntryTest for Ways<'a> {
     ghost use Rattle.dax_audit.specs.Rules.{came_right};
     ghost use Rattle.dax_audit.specs.Tables.{AreHolds};
-    ghost use Rattle.dax_audit.specs.Tables.{AreReplays, AreLooks, AreNamed, StaysWithin};
+    ghost use Rattle.dax_audit.specs.Tables.{AreReplays, AreLooks, AreLives, AreNamed, StaysWithin};
 
     ghost of = { λ j. j.t.now };
 
-    ghost ready = { λ j. AreHolds j.script.now j.holds.now × AreReplays j.script.now j.t.now j.replays.now × AreLooks j.script.now j.t.now j.looks.now × AreNamed j.script.now j.t.now × StaysWithin j.script.now };
+    ghost ready = { λ j. AreHolds j.script.now j.holds.now × AreReplays j.script.now j.t.now j.replays.now × AreLooks j.script.now j.t.now j.looks.now × AreNamed j.script.now j.t.now × StaysWithin j.script.now × AreLives j.t.now j.lives.now };
 
     ghost asks = { λ j. came_right j.script.now j.t.now };
 
@@ -173,7 +163,7 @@ impl<'a> EntryTest for Ways<'a> {
         }
         is_windowed(
             sizes_of(self.replays, file),
-            log_of(self.t, file),
+            &self.lives[file],
             seen_of(self.looks, guest, call),
             calls,
             guest_holds(self.script, self.holds, guest),

@@ -4,3 +4,4 @@ pub mod Apart
 pub mod Agreeing
 pub mod Rooms
 pub mod Live
+pub mod Behind

@@ -9,6 +9,7 @@
 #![tactic(auto)]
 
 mod liveness;
+mod lives;
 mod slots;
 #[cfg(test)]
 mod tests;
@@ -16,6 +17,7 @@ mod trees;
 mod unsound;
 
 pub use liveness::is_live;
+pub use lives::Lives;
 pub use page_map::{LogEntry, Look, Placed, RangeWord, Target};
 pub use trees::Tree;
 pub use unsound::first_unsound;
