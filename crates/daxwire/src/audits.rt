@@ -3,11 +3,7 @@ ghost use Rattle.program_io.specs.declared.statuses.Status.{Status};
 ghost use Rattle.dax_script.specs.ScriptText.{script_of};
 ghost use Rattle.dax_script.specs.Fits.{fits};
 ghost use Rattle.dax_script.specs.Whys.{why_word};
-ghost use Rattle.std.specs.Prelude.{IfErr, Ok};
-ghost use Rattle.transcript_text.specs.Drafts.{IsCause};
 ghost use Rattle.transcript_text.specs.TranscriptReading.{transcript_of};
-ghost use Rattle.dax_audit.specs.Tables.{verdict_of};
-ghost use Rattle.dax_audit.specs.Legal.{fault};
 ghost use Rattle.daxwire.specs.AuditText.{bad_script_line, bad_transcript_line, script_due, transcript_due, verdict_due};
 ghost use Rattle.daxwire.specs.Wholes.{IsAnswered};
 
@@ -19,7 +15,7 @@ use dax_script::{BadScript, Script, Why};
 use plain_file::{Blob, Memory};
 use program_io::Status;
 use std::alloc::Global;
-use transcript_text::{BadTranscript, Transcript};
+use transcript_text::BadTranscript;
 
 // Adds the line that refuses the script.
 #[tactic(auto, unfolding(plain_text::specs::Printed::joined))]
@@ -76,22 +72,6 @@ fn put_verdict(verdict: Verdict, out: &mut Vec<u8>) -> Result<Status, Memory>
     }
 }
 
-// STUB
-fn parse_transcript(_alloc: Global, text: &[u8]) -> Result<Transcript, BadTranscript>
-    ensures reads { IfOk result (λ t. transcript_of text.now ≡ Ok t) }
-    ensures bad { IfErr result (λ e. IsCause e (transcript_of text.now)) }
-{
-    Err(BadTranscript::Memory)
-}
-
-// STUB
-fn audit2(_alloc: Global, script: &Script, t: &Transcript) -> Result<Verdict, Memory>
-    requires fits { fits script.now ≡ true }
-    ensures { IfOk result (λ v. v ≡ verdict_of (fault script.now t.now)) }
-{
-    Err(Memory)
-}
-
 // Judges the text of a transcript by a script.
 #[tactic(auto, unfolding(crate::specs::AuditText::transcript_due))]
 fn judge(alloc: Global, script: &Script, text: &[u8], out: &mut Vec<u8>) -> Result<Status, Memory>
@@ -101,8 +81,8 @@ fn judge(alloc: Global, script: &Script, text: &[u8], out: &mut Vec<u8>) -> Resu
     ensures status { IfOk result (λ status. status ≡ (transcript_due script.now (transcript_of text.now)).status) }
     ensures answered { IfOk result IsAnswered }
 {
-    match parse_transcript(alloc, text) {
-        Ok(transcript) => put_verdict(audit2(alloc, script, &transcript)?, out),
+    match transcript_text::parse(alloc, text) {
+        Ok(transcript) => put_verdict(audit(alloc, script, &transcript)?, out),
         Err(BadTranscript::Line { line }) => {
             put_bad_transcript(line, out)?;
             Ok(Status::Refused)
@@ -140,11 +120,7 @@ fn judge_texts(alloc: Global, script: &[u8], transcript: &[u8], out: &mut Vec<u8
 pub struct Audit;
 
 impl Answer for Audit {
-    ghost use Rattle.std.specs.Prelude.{IfErr, Ok};
-ghost use Rattle.transcript_text.specs.Drafts.{IsCause};
-ghost use Rattle.transcript_text.specs.TranscriptReading.{transcript_of};
-ghost use Rattle.dax_audit.specs.Tables.{verdict_of};
-ghost use Rattle.dax_audit.specs.Legal.{fault};
+    ghost use Rattle.transcript_text.specs.TranscriptReading.{transcript_of};
 ghost use Rattle.daxwire.specs.AuditText.{texts_due};
 
     ghost due = { texts_due };
