@@ -14,6 +14,10 @@
 //! audit prints), `Commands` and `Run` (what a run writes with which status).
 #![tactic(auto)]
 
+#[cfg(test)]
+mod audit_table;
+#[cfg(test)]
+mod audit_tests;
 mod audits;
 mod commands;
 mod divides;
