@@ -91,10 +91,6 @@ abbrev pub IsCause : BadTranscript → Result Transcript ℕ → Type 0
 IsCause (bad.Line line) r = r ≡ Err line
 IsCause bad.Memory r = ⊤
 
--- the byte that a file begins with
-abbrev pub fill_from : List ℕ → Option ℕ
-fill_from word = hex_of word >>= only_byte
-
 -- the same of the n-th line: it gives no reading
 abbrev pub IsBadLine : BadTranscript → ℕ → Option Reading → Type 0
 IsBadLine (bad.Line line) n read = (line ≡ n) × (read ≡ None)
