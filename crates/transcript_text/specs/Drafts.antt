@@ -11,10 +11,9 @@ use Rattle.transcript_text.specs.declared.transcripts.Numbered.{Numbered}
 use Rattle.transcript_text.specs.declared.transcripts.Transcript.{Transcript}
 use Rattle.transcript_text.specs.declared.transcripts.BadTranscript.{BadTranscript}
 use Rattle.transcript_text.specs.declared.transcripts.BadTranscript.TheVariants as bad
-use Rattle.plain_text.specs.Hexadecimal.{hex_of}
 use Rattle.plain_text.specs.Options.{◌>>=◌}
 use Rattle.page_map.specs.declared.ranges.LogEntry.{LogEntry}
-use Rattle.transcript_text.specs.TranscriptReading.{only_byte, number_32, number_64, via_of, Reading, Start, Version, Parts, Ended, onto_last, with_entry, with_log, with_line, line_read, or_line, transcript_from}
+use Rattle.transcript_text.specs.TranscriptReading.{number_32, number_64, via_of, Reading, Start, Version, Parts, Ended, onto_last, with_entry, with_log, with_line, line_read, or_line, transcript_from}
 use Rattle.transcript_text.specs.declared.drafts.Draft.{Draft}
 
 -- the words of what lies behind a space; none where there is no space
