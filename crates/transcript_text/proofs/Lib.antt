@@ -8,3 +8,4 @@ pub mod LinesRead
 pub mod Bounds
 pub mod LinesFrom
 pub mod TextFits
+pub mod OneByte

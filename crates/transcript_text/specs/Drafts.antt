@@ -11,10 +11,9 @@ use Rattle.transcript_text.specs.declared.transcripts.Numbered.{Numbered}
 use Rattle.transcript_text.specs.declared.transcripts.Transcript.{Transcript}
 use Rattle.transcript_text.specs.declared.transcripts.BadTranscript.{BadTranscript}
 use Rattle.transcript_text.specs.declared.transcripts.BadTranscript.TheVariants as bad
-use Rattle.plain_text.specs.Hexadecimal.{hex_of}
 use Rattle.plain_text.specs.Options.{◌>>=◌}
 use Rattle.page_map.specs.declared.ranges.LogEntry.{LogEntry}
-use Rattle.transcript_text.specs.TranscriptReading.{only_byte, number_32, number_64, via_of, Reading, Start, Version, Parts, Ended, onto_last, with_entry, with_log, with_line, line_read, or_line, transcript_from}
+use Rattle.transcript_text.specs.TranscriptReading.{number_32, number_64, via_of, Reading, Start, Version, Parts, Ended, onto_last, with_entry, with_log, with_line, line_read, or_line, transcript_from}
 use Rattle.transcript_text.specs.declared.drafts.Draft.{Draft}
 
 -- the words of what lies behind a space; none where there is no space
@@ -90,10 +89,6 @@ is_one (Some n) = n == 1
 abbrev pub IsCause : BadTranscript → Result Transcript ℕ → Type 0
 IsCause (bad.Line line) r = r ≡ Err line
 IsCause bad.Memory r = ⊤
-
--- the byte that a file begins with
-abbrev pub fill_from : List ℕ → Option ℕ
-fill_from word = hex_of word >>= only_byte
 
 -- the same of the n-th line: it gives no reading
 abbrev pub IsBadLine : BadTranscript → ℕ → Option Reading → Type 0
