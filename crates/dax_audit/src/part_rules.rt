@@ -37,6 +37,7 @@ impl<'a> Judge for Files<'a> {
 
     ghost breaks = { λ j. breaks_files j.script.now j.t.now };
 
+    #[inline(always)]
     #[tactic(auto, unfolding(crate::specs::Rules::breaks_files))]
     fn is_broken(&self, row: Row<'_>) -> bool {
         match row {
@@ -77,6 +78,7 @@ impl<'a> Judge for Guests<'a> {
 
     ghost breaks = { λ j. breaks_guests j.script.now j.t.now };
 
+    #[inline(always)]
     #[tactic(auto, unfolding(crate::specs::Rules::breaks_guests))]
     fn is_broken(&self, row: Row<'_>) -> bool {
         match row {
@@ -127,6 +129,7 @@ impl<'a> Judge for Logs<'a> {
 
     ghost breaks = { λ j. breaks_logs j.script.now j.t.now };
 
+    #[inline(always)]
     #[tactic(auto, using(crate::proofs::Singles::unsound_there, crate::proofs::Singles::unsound_nowhere), unfolding(crate::specs::Rules::breaks_logs))]
     fn is_broken(&self, row: Row<'_>) -> bool {
         match row {

@@ -3,7 +3,7 @@ ghost use Rattle.plain_file.specs.File.{max_file, after, answer, written, first_
 ghost use Rattle.dax_script.specs.Asks.{hold_places, op_from, op_of, calls_of, call_at};
 ghost use Rattle.dax_audit.specs.Rules.{line_at, op_in, same_answer};
 ghost use Rattle.dax_audit.specs.Tables.{AreHolds};
-ghost use Rattle.dax_audit.specs.Tables.{op_of_deed, end_of, told, deed_from, StaysWithin, sizes_from, told_by, right_on, rights_from};
+ghost use Rattle.dax_audit.specs.Tables.{op_of_deed, end_of, told, deed_from, StaysWithin, sizes_from, right_on, rights_from};
 
 use crate::picks::pick;
 use crate::rules::{guest_calls, guest_holds, guest_lines};
@@ -51,16 +51,6 @@ fn is_answer(bytes: &[u8], deed: &Deed, told: &Answer) -> bool
         (Deed::Fill { len, .. }, Answer::Wrote(n)) => *len == *n,
         (Deed::Truncate { size }, Answer::Size(n)) => *size == *n,
         (Deed::Size, Answer::Size(n)) => bytes.len() as u64 == *n,
-        _ => false,
-    }
-}
-
-#[tactic(auto, unfolding(crate::specs::Tables::told_by))]
-fn is_told(bytes: &[u8], deed: &Deed, line: &Line) -> bool
-    ensures { result ≡ told_by line.now (answer bytes.now (op_of_deed deed.now)) }
-{
-    match line {
-        Line::Done { answer, .. } => is_answer(bytes, deed, answer),
         _ => false,
     }
 }
@@ -156,12 +146,17 @@ fn deed_of<'a>(script: &'a Script, holds: &[Vec<usize>], entry: &EntryLine) -> D
     deed_at(to.start, call)
 }
 
+// Whether the line of an entry's call tells the plain file's answer.
+#[tactic(auto, unfolding(crate::specs::Tables::told_by))]
 fn is_right(t: &Transcript, bytes: &[u8], deed: &Deed, entry: &EntryLine) -> bool
     ensures { result ≡ told (line_at t.now entry.now.guest entry.now.call) (answer bytes.now (op_of_deed deed.now)) }
 {
-    match pick(guest_lines(t, entry.guest as usize), entry.call as usize) {
-        Some(numbered) => is_told(bytes, deed, &numbered.line),
-        None => false,
+    let Some(numbered) = pick(guest_lines(t, entry.guest as usize), entry.call as usize) else {
+        return false;
+    };
+    match &numbered.line {
+        Line::Done { answer, .. } => is_answer(bytes, deed, answer),
+        _ => false,
     }
 }
 

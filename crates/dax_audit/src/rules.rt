@@ -122,6 +122,7 @@ impl<'a> Judge for Entries<'a> {
 
     ghost breaks = { λ j. breaks_entries j.script.now j.t.now };
 
+    #[inline(always)]
     #[tactic(auto, using(crate::proofs::Singles::or_nothing), unfolding(crate::specs::Rules::breaks_call, crate::specs::Rules::breaks_entry))]
     fn is_broken(&self, row: Row<'_>) -> bool {
         match row {

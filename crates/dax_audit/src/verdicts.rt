@@ -1,7 +1,7 @@
 use plain_file::Through;
 
 /// What a granted hold has: its end, and the placement that it goes through.
-#[derive(Clone, Copy, Debug, PartialEq, Eq)]
+#[derive(Clone, Copy)]
 pub struct Grant {
     /// The file's offset behind the last byte that may be read or written.
     pub end: u64,
