@@ -16,32 +16,9 @@ use plain_file::{Blob, FileBoard, Memory};
 use std::alloc::Global;
 
 impl Daemon {
-    // Judges the session and the room for the reply, then serves the request.
-    #[tactic(auto, unfolding(fuse_device::specs::Steps::judged_message))]
-    fn judge<F: FileBoard, M: MapBoard>(
-        &mut self,
-        alloc: Global,
-        message: Message,
-        room: u32,
-        files: &mut F,
-        map: &mut M,
-    ) -> Result<Reply, Refused>
-        requires bounded { is_bounded message.body ≡ true }
-        requires boards { CanServe self.old (F.board files.old) (M.map map.old) message.body }
-        ensures answer { Gives (world self.old (F.board files.old) (M.map map.old)) (judged_message (world self.old (F.board files.old) (M.map map.old)) room message) result (world self.new (F.board files.new) (M.map map.new)) }
-        ensures room { IfOk result (λ reply. IsWithin (wanted_room message.body) reply) }
-    {
-        if !self.is_started() && !is_init(&message.body) {
-            return Err(Refused::Errno(Errno::EIO));
-        }
-        if (room as u64) < wanted_room(&message.body) {
-            return Err(Refused::Errno(Errno::EINVAL));
-        }
-        self.serve(alloc, message, files, map)
-    }
-
-    // Appends the bytes that answer a request. They have their place before anything is done.
-    #[tactic(auto, using(fuse_codec::proofs::CleanReplies::reply_bound), unfolding(fuse_device::specs::Steps::reply_to))]
+    // Judges the session and the room for the reply, then serves the request, and appends the bytes that answer it.
+    // They have their place before anything is done.
+    #[tactic(auto, using(fuse_codec::proofs::CleanReplies::reply_bound), unfolding(fuse_device::specs::Steps::reply_to, fuse_device::specs::Steps::judged_message))]
     fn answer_message<F: FileBoard, M: MapBoard>(
         &mut self,
         alloc: Global,
@@ -60,12 +37,26 @@ impl Daemon {
     {
         let unique = message.head.unique;
         reserve_reply(out, &message.body)?;
-        match self.judge(alloc, message, room, files, map) {
-            Ok(reply) => put_reply(out, &reply, unique),
-            Err(Refused::Errno(error)) => put_error(out, error, unique),
-            Err(Refused::Memory) => return Err(Memory),
+        if !self.is_started() && !is_init(&message.body) {
+            put_error(out, Errno::EIO, unique);
+            return Ok(());
         }
-        Ok(())
+        if (room as u64) < wanted_room(&message.body) {
+            put_error(out, Errno::EINVAL, unique);
+            return Ok(());
+        }
+        let served = self.serve(alloc, message, files, map);
+        match &served {
+            Ok(reply) => {
+                put_reply(out, reply, unique);
+                Ok(())
+            }
+            Err(Refused::Errno(error)) => {
+                put_error(out, *error, unique);
+                Ok(())
+            }
+            Err(Refused::Memory) => Err(Memory),
+        }
     }
 
     // Carries out what has no reply.

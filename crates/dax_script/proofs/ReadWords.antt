@@ -94,11 +94,11 @@ writing_hold_yields held word = then_yields (λ _. Unit {0}) _ (number word) _ (
 
 -- ---- bytes
 
-bind_yields : {A B : Type 0} (Q : A → Type 0) (P : B → Type 0) (o : Option A) (f : A → Option B) → IfSome o Q → ((x : A) → Q x → IfSome (f x) P) → IfSome (o >>= f) P
+pub bind_yields : {A B : Type 0} (Q : A → Type 0) (P : B → Type 0) (o : Option A) (f : A → Option B) → IfSome o Q → ((x : A) → Q x → IfSome (f x) P) → IfSome (o >>= f) P
 bind_yields Q P None f h k = tt
 bind_yields Q P (Some x) f h k = k x h
 
-if_some : {A : Type 0} (P : A → Type 0) (t : Bool) (o p : Option A) → (t ≡ true → IfSome o P) → IfSome p P → IfSome (if t then o else p) P
+pub if_some : {A : Type 0} (P : A → Type 0) (t : Bool) (o p : Option A) → (t ≡ true → IfSome o P) → IfSome p P → IfSome (if t then o else p) P
 if_some P true o p h k = h refl
 if_some P false o p h k = k
 
@@ -122,7 +122,7 @@ byte_yields (a ∷ []) = tt
 byte_yields (a ∷ b ∷ []) = or_yields _ _ (hex_pair a b) (pair_yields a b)
 byte_yields (a ∷ b ∷ c ∷ word) = tt
 
-pairs_yield : (word : List ℕ) → IfSome (hex_pairs word) (λ bytes. are_bytes bytes ≡ true)
+pub pairs_yield : (word : List ℕ) → IfSome (hex_pairs word) (λ bytes. are_bytes bytes ≡ true)
 unfolding hex_pairs
 pairs_yield [] = refl
 pairs_yield (a ∷ []) = tt

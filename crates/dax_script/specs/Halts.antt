@@ -14,11 +14,17 @@ Gives (Ok x) read = read ≡ Ok x
 Gives (Err halts.Memory) read = Unit {0}
 Gives (Err (halts.Bad why)) read = read ≡ Err why
 
+-- the same of a step that changes a value in place, and which value is there now
+abbrev pub Turns : {X : Type 0} → Result (Unit {0}) Halt → X → Result X Why → Type 0
+Turns (Ok done) now read = read ≡ Ok now
+Turns (Err halts.Memory) now read = Unit {0}
+Turns (Err (halts.Bad why)) now read = read ≡ Err why
+
 -- the same of the n-th line
-abbrev pub GivesAt : {X : Type 0} → ℕ → Result X BadScript → Result X Why → Type 0
-GivesAt n (Ok x) read = read ≡ Ok x
-GivesAt n (Err bads.Memory) read = Unit {0}
-GivesAt n (Err (bads.Line line why)) read = (line ≡ n) × (read ≡ Err why)
+abbrev pub TurnsAt : {X : Type 0} → ℕ → Result (Unit {0}) BadScript → X → Result X Why → Type 0
+TurnsAt n (Ok done) now read = read ≡ Ok now
+TurnsAt n (Err bads.Memory) now read = Unit {0}
+TurnsAt n (Err (bads.Line line why)) now read = (line ≡ n) × (read ≡ Err why)
 
 -- the whole text's script, or its first bad line
 abbrev pub Parses : Result Script BadScript → Result Script BadLine → Type 0

@@ -6,3 +6,4 @@ pub mod Halts
 pub mod Totals
 pub mod ScriptPrinted
 pub mod Fits
+pub mod Whys

@@ -1,6 +1,6 @@
 ghost use Rattle.std.specs.Prelude.{◌≡◌, ◌+◌, ◌<◌, ◌^◌, ◌∷◌, [], true, IfOk};
 ghost use Rattle.dax_script.specs.Fits.{fits};
-ghost use Rattle.dax_script.specs.Halts.{GivesAt, Parses};
+ghost use Rattle.dax_script.specs.Halts.{TurnsAt, Parses};
 ghost use Rattle.dax_script.specs.ScriptText.{line_read, script_from, script_of};
 
 use crate::halts::Halt;
@@ -26,29 +26,35 @@ pub fn parse(alloc: Global, text: &[u8]) -> Result<Script, BadScript>
         let Some(after) = after else {
             return last_line(alloc, reading, line, first);
         };
-        reading = next_line(alloc, reading, line, first)?;
+        next_line(alloc, &mut reading, line, first)?;
         line += 1;
         rest = after;
     }
 }
 
-fn next_line(alloc: Global, reading: Reading, line: u64, bytes: &[u8]) -> Result<Reading, BadScript>
-    ensures { GivesAt line result (line_read reading bytes.now) }
+fn next_line(alloc: Global, reading: &mut Reading, line: u64, bytes: &[u8]) -> Result<(), BadScript>
+    ensures { TurnsAt line result reading.new (line_read reading.old bytes.now) }
 {
-    match reading.with_line(alloc, bytes) {
-        Ok(reading) => Ok(reading),
+    match reading.read_line(alloc, bytes) {
+        Ok(()) => Ok(()),
         Err(Halt::Bad(why)) => Err(BadScript::Line { line, why }),
         Err(Halt::Memory) => Err(BadScript::Memory),
     }
 }
 
 // The script whose last line has no line end; an empty one is none.
-fn last_line(alloc: Global, reading: Reading, line: u64, bytes: &[u8]) -> Result<Script, BadScript>
+fn last_line(
+    alloc: Global,
+    mut reading: Reading,
+    line: u64,
+    bytes: &[u8],
+) -> Result<Script, BadScript>
     requires { line + 1 < 2 ^ 64 }
     ensures { Parses result (script_from line reading (bytes.now ∷ [])) }
 {
     if bytes.is_empty() {
         return reading.finish(line);
     }
-    next_line(alloc, reading, line, bytes)?.finish(line + 1)
+    next_line(alloc, &mut reading, line, bytes)?;
+    reading.finish(line + 1)
 }

@@ -1,10 +1,10 @@
 //! The script that the lines of a text so far say, and what one line more makes of it.
 
-ghost use Rattle.std.specs.Prelude.{◌≡◌, ◌≤◌, ◌<◌, ◌^◌, ◌++◌, IfOk, IfSome, is_none, length};
+ghost use Rattle.std.specs.Prelude.{◌≡◌, ◌≤◌, ◌<◌, ◌+◌, ◌^◌, ◌++◌, IfOk, IfSome, OnOk, is_none, length, vec_len, vec_capacity};
 ghost use Rattle.plain_text.specs.Words.{words_of};
 ghost use Rattle.dax_script.specs.Steps.{three};
 ghost use Rattle.dax_script.specs.ScriptWords.{held_mode};
-ghost use Rattle.dax_script.specs.Halts.{Gives, Parses};
+ghost use Rattle.dax_script.specs.Halts.{Gives, Parses, Turns};
 ghost use Rattle.dax_script.specs.Totals.{modes_of};
 ghost use Rattle.dax_script.specs.ScriptText.{start, guests_with, moved_by, call_added, call_line, ranges_line, background_line, zeros_file, filled_file, file_of_words, file_line, guest_line, is_first, later_line, worded_line, worded, line_read, is_comment, finished};
 
@@ -19,6 +19,7 @@ use plain_file::{First, List, MAX_FILE, MAX_FILES, Memory};
 use plain_text::next_word;
 use std::alloc::Global;
 use std::marker::Model;
+use std::mem::replace;
 
 // The most calls of a script, and the most bytes that they move together.
 const MAX_CALLS: u64 = 65_536;
@@ -38,7 +39,7 @@ pub(crate) struct Reading {
     files: List<FileLine>,
     done: List<List<Call>>,
     calls: Option<List<Call>>,
-    held: List<Mode>,
+    held: Vec<Mode>,
     made: u64,
     bytes: u64,
 }
@@ -53,7 +54,7 @@ impl Model for Reading {
 
     ghost view = { λ it. record { ranges = it.ranges; background = it.background; files = it.files; done = it.done; calls = it.calls } };
 
-    ghost invariant = { λ it. AreTotals it.done it.calls it.held it.made it.bytes × (length it.files ≤ max_files) };
+    ghost invariant = { λ it. AreTotals it.done it.calls it.held.items it.made it.bytes × (length it.files ≤ max_files) };
 }
 
 impl Reading {
@@ -66,16 +67,16 @@ impl Reading {
             files: List::new(alloc),
             done: List::new(alloc),
             calls: None,
-            held: List::new(alloc),
+            held: Vec::new(alloc),
             made: 0,
             bytes: 0,
         }
     }
 
-    // The script with a call more of the guest at hand.
+    // A call more of the guest at hand. After `Memory` all is as it was.
     #[tactic(auto, unfolding(crate::specs::ScriptText::call_added))]
-    fn with_call(self, ranges: u32, call: Call) -> Result<Reading, Halt>
-        ensures { IfSome self.calls (λ cs. Gives result (call_added self ranges cs call)) }
+    fn add_call(&mut self, ranges: u32, call: Call) -> Result<(), Halt>
+        ensures { IfSome self.old.calls (λ cs. Turns result self.new (call_added self.old ranges cs call)) }
     {
         let made = self.made + 1;
         let bytes = self.bytes.saturating_add(moved_by(&call));
@@ -85,41 +86,27 @@ impl Reading {
         if call.is_hold() && ranges == 0 {
             return Err(Halt::Bad(Why::Window));
         }
-        let Reading {
-            ranges,
-            background,
-            files,
-            done,
-            calls,
-            held,
-            ..
-        } = self;
-        let Some(mut calls) = calls else {
+        let Some(calls) = &mut self.calls else {
             return Err(Halt::Bad(Why::Order));
         };
-        let held = with_mode(held, held_mode(&call))?;
+        let mode = held_mode(&call);
+        make_room(&mut self.held, mode)?;
         calls.push(call)?;
-        Ok(Reading {
-            ranges,
-            background,
-            files,
-            done,
-            calls: Some(calls),
-            held,
-            made,
-            bytes,
-        })
+        put_mode(&mut self.held, mode);
+        self.made = made;
+        self.bytes = bytes;
+        Ok(())
     }
 
     #[tactic(auto, unfolding(crate::specs::ScriptText::call_line))]
-    fn with_call_line(
-        self,
+    fn read_call_line(
+        &mut self,
         alloc: Global,
         ranges: u32,
         verb: &[u8],
         line: &[u8],
-    ) -> Result<Reading, Halt>
-        ensures { Gives result (call_line self ranges self.calls verb.now (words_of line.now)) }
+    ) -> Result<(), Halt>
+        ensures { Turns result self.new (call_line self.old ranges self.old.calls verb.now (words_of line.now)) }
     {
         if self.calls.is_none() {
             return Err(Halt::Bad(Why::Order));
@@ -131,22 +118,22 @@ impl Reading {
             verb,
             line,
         )?;
-        self.with_call(ranges, call)
+        self.add_call(ranges, call)
     }
 
     #[tactic(auto, unfolding(crate::specs::ScriptText::ranges_line))]
-    fn with_ranges(mut self, line: &[u8]) -> Result<Reading, Halt>
-        ensures { Gives result (ranges_line self (words_of line.now)) }
+    fn read_ranges(&mut self, line: &[u8]) -> Result<(), Halt>
+        ensures { Turns result self.new (ranges_line self.old (words_of line.now)) }
     {
         let n = one(line)?;
         let n = ranges_number(n)?;
         self.ranges = Some(n);
-        Ok(self)
+        Ok(())
     }
 
     #[tactic(auto, unfolding(crate::specs::ScriptText::background_line))]
-    fn with_background(mut self, ranges: u32, line: &[u8]) -> Result<Reading, Halt>
-        ensures { Gives result (background_line self ranges (words_of line.now)) }
+    fn read_background(&mut self, ranges: u32, line: &[u8]) -> Result<(), Halt>
+        ensures { Turns result self.new (background_line self.old ranges (words_of line.now)) }
     {
         let n = one(line)?;
         let n = between(0, MAX_BACKGROUND, n)?;
@@ -154,19 +141,19 @@ impl Reading {
             return Err(Halt::Bad(Why::Window));
         }
         self.background = Some(n as u32);
-        Ok(self)
+        Ok(())
     }
 
     #[tactic(auto, unfolding(crate::specs::ScriptText::file_line))]
-    fn with_file(mut self, alloc: Global, line: &[u8]) -> Result<Reading, Halt>
-        ensures { Gives result (file_line self (words_of line.now)) }
+    fn read_file(&mut self, alloc: Global, line: &[u8]) -> Result<(), Halt>
+        ensures { Turns result self.new (file_line self.old (words_of line.now)) }
     {
         let file = file_of_words(alloc, self.files.as_slice(), line)?;
         if self.files.len() >= MAX_FILES as usize {
             return Err(Halt::Bad(Why::Limit));
         }
         self.files.push(file)?;
-        Ok(self)
+        Ok(())
     }
 
     #[tactic(auto, using(crate::proofs::Totals::totals_guest), unfolding(crate::specs::ScriptText::guest_line))]
@@ -194,7 +181,7 @@ impl Reading {
             files,
             done,
             calls: Some(List::new(alloc)),
-            held: List::new(alloc),
+            held: Vec::new(alloc),
             made,
             bytes,
         })
@@ -212,59 +199,68 @@ impl Reading {
         self.calls.is_none()
     }
 
+    // A new guest. After an error the reading is a new one.
+    fn read_guest(&mut self, alloc: Global, line: &[u8]) -> Result<(), Halt>
+        ensures { Turns result self.new (guest_line self.old (words_of line.now)) }
+    {
+        let reading = replace(self, Reading::new(alloc));
+        *self = reading.with_guest(alloc, line)?;
+        Ok(())
+    }
+
     #[tactic(auto, unfolding(crate::specs::ScriptText::later_line))]
-    fn with_later(
-        self,
+    fn read_later(
+        &mut self,
         alloc: Global,
         ranges: u32,
         verb: &[u8],
         line: &[u8],
-    ) -> Result<Reading, Halt>
-        ensures { Gives result (later_line self ranges verb.now (words_of line.now)) }
+    ) -> Result<(), Halt>
+        ensures { Turns result self.new (later_line self.old ranges verb.now (words_of line.now)) }
     {
         if verb == b"background".as_slice() {
             if !self.is_first() {
                 return Err(Halt::Bad(Why::Order));
             }
-            self.with_background(ranges, line)
+            self.read_background(ranges, line)
         } else if verb == b"file".as_slice() {
             if !self.has_no_guest() {
                 return Err(Halt::Bad(Why::Order));
             }
-            self.with_file(alloc, line)
+            self.read_file(alloc, line)
         } else if verb == b"guest".as_slice() {
-            self.with_guest(alloc, line)
+            self.read_guest(alloc, line)
         } else {
-            self.with_call_line(alloc, ranges, verb, line)
+            self.read_call_line(alloc, ranges, verb, line)
         }
     }
 
     #[tactic(auto, unfolding(crate::specs::ScriptText::worded_line))]
-    fn with_words(self, alloc: Global, verb: &[u8], line: &[u8]) -> Result<Reading, Halt>
-        ensures { Gives result (worded_line self self.ranges verb.now (words_of line.now)) }
+    fn read_words(&mut self, alloc: Global, verb: &[u8], line: &[u8]) -> Result<(), Halt>
+        ensures { Turns result self.new (worded_line self.old self.old.ranges verb.now (words_of line.now)) }
     {
         match self.ranges {
-            Some(ranges) => self.with_later(alloc, ranges, verb, line),
+            Some(ranges) => self.read_later(alloc, ranges, verb, line),
             None => {
                 if verb != b"ranges".as_slice() {
                     return Err(Halt::Bad(Why::Order));
                 }
-                self.with_ranges(line)
+                self.read_ranges(line)
             }
         }
     }
 
-    // The script with a line more. A line of spaces alone and a comment change nothing.
+    // Reads a line more. A line of spaces alone and a comment change nothing.
     #[tactic(auto, unfolding(crate::specs::ScriptText::line_read, crate::specs::ScriptText::worded))]
-    pub(crate) fn with_line(self, alloc: Global, line: &[u8]) -> Result<Reading, Halt>
-        ensures { Gives result (line_read self line.now) }
+    pub(crate) fn read_line(&mut self, alloc: Global, line: &[u8]) -> Result<(), Halt>
+        ensures { Turns result self.new (line_read self.old line.now) }
     {
         if is_comment(line) {
-            return Ok(self);
+            return Ok(());
         }
         match next_word(line) {
-            None => Ok(self),
-            Some((verb, rest)) => self.with_words(alloc, verb, rest),
+            None => Ok(()),
+            Some((verb, rest)) => self.read_words(alloc, verb, rest),
         }
     }
 
@@ -384,11 +380,22 @@ pub(crate) fn held_mode(call: &Call) -> Option<Mode>
     }
 }
 
-fn with_mode(mut held: List<Mode>, mode: Option<Mode>) -> Result<List<Mode>, Memory>
-    ensures { IfOk result (λ more. more ≡ held ++ modes_of mode) }
+// Room for the mode that a call adds.
+fn make_room(held: &mut Vec<Mode>, mode: Option<Mode>) -> Result<(), Memory>
+    ensures same { held.new.items ≡ held.old.items }
+    ensures room { OnOk result (vec_len held.new + length (modes_of mode) ≤ vec_capacity held.new) }
+{
+    if mode.is_some() {
+        held.reserve(1)?;
+    }
+    Ok(())
+}
+
+fn put_mode(held: &mut Vec<Mode>, mode: Option<Mode>)
+    requires { vec_len held.old + length (modes_of mode) ≤ vec_capacity held.old }
+    ensures { held.new.items ≡ held.old.items ++ modes_of mode }
 {
     if let Some(mode) = mode {
-        held.push(mode)?;
+        held.push(mode).unwrap();
     }
-    Ok(held)
 }

@@ -1,3 +1,6 @@
+ghost use Rattle.std.specs.Prelude.{◌≡◌};
+ghost use Rattle.dax_script.specs.Whys.{why_word};
+
 use thiserror::Error;
 
 /// Why a line of a text isn't one of a script. A line has the first reason of these: `Order`, then
@@ -27,6 +30,28 @@ pub enum Why {
     Mode,
     /// A hold, or turns of the background, where there are no ranges.
     Window,
+}
+
+impl Why {
+    /// The word that says it where a text is refused, as `limit`.
+    #[tactic(auto, unfolding(crate::specs::Whys::why_word))]
+    pub fn word(self) -> &'static str
+        ensures { result.now ≡ why_word self }
+    {
+        match self {
+            Why::Order => "order",
+            Why::Words => "words",
+            Why::Number => "number",
+            Why::Limit => "limit",
+            Why::Name => "name",
+            Why::File => "file",
+            Why::Hold => "hold",
+            Why::Hex => "hex",
+            Why::Byte => "byte",
+            Why::Mode => "mode",
+            Why::Window => "window",
+        }
+    }
 }
 
 /// Why a text gives no script.

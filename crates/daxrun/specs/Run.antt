@@ -8,8 +8,7 @@ use Rattle.plain_text.specs.Printed.{line}
 use Rattle.dax_script.specs.declared.scripts.Script.{Script}
 use Rattle.program_io.specs.declared.statuses.Status.{Status}
 use Rattle.program_io.specs.declared.statuses.Status.TheVariants as statuses
-use Rattle.dax_script.specs.declared.whys.Why.{Why}
-use Rattle.dax_script.specs.declared.whys.Why.TheVariants as whys
+use Rattle.dax_script.specs.Whys.{why_word}
 use Rattle.program_io.specs.Causes.{AppendsPart}
 use Rattle.dax_script.specs.ScriptText.{BadLine, script_of}
 use Rattle.transcript_text.specs.declared.transcripts.Transcript.{Transcript}
@@ -35,20 +34,6 @@ abbrev pub too_long_line : List ℕ
 too_long_line = codes "too long\n"
 
 -- ---- refusals
-
--- the word for a reason
-unfoldable pub why_word : Why → List ℕ
-why_word whys.Order = codes "order"
-why_word whys.Words = codes "words"
-why_word whys.Number = codes "number"
-why_word whys.Limit = codes "limit"
-why_word whys.Name = codes "name"
-why_word whys.File = codes "file"
-why_word whys.Hold = codes "hold"
-why_word whys.Hex = codes "hex"
-why_word whys.Byte = codes "byte"
-why_word whys.Mode = codes "mode"
-why_word whys.Window = codes "window"
 
 -- the first line of a text that is no line of a script, and why
 abbrev pub refused_line : BadLine → List ℕ
@@ -106,38 +91,6 @@ abbrev pub due_status : List (List ℕ) → List ℕ → Status
 due_status words input =
     if is_script_command words then (if nat_lt limit (length input) then statuses.TooLong else if is_none (refusal (script_of input)) then statuses.Ok else statuses.Refused)
     else statuses.Usage
-
--- the due status, or a failure
-abbrev pub IsExpected : Status → Status → Type 0
-IsExpected due statuses.ReadFault = Unit {0}
-IsExpected due statuses.WriteFault = Unit {0}
-IsExpected due statuses.Memory = Unit {0}
-IsExpected due statuses.Ok = due ≡ statuses.Ok
-IsExpected due statuses.Refused = due ≡ statuses.Refused
-IsExpected due statuses.Usage = due ≡ statuses.Usage
-IsExpected due statuses.TooLong = due ≡ statuses.TooLong
-IsExpected due statuses.NotLegal = ⊥
-
--- the usage line was taken whole, or the sink failed
-abbrev pub IsUsageOrWriteFault : Status → Type 0
-IsUsageOrWriteFault statuses.Usage = Unit {0}
-IsUsageOrWriteFault statuses.WriteFault = Unit {0}
-IsUsageOrWriteFault statuses.Ok = ⊥
-IsUsageOrWriteFault statuses.Refused = ⊥
-IsUsageOrWriteFault statuses.ReadFault = ⊥
-IsUsageOrWriteFault statuses.Memory = ⊥
-IsUsageOrWriteFault statuses.TooLong = ⊥
-IsUsageOrWriteFault statuses.NotLegal = ⊥
-
-abbrev pub IsOkOrMemory : Status → Type 0
-IsOkOrMemory statuses.Ok = Unit {0}
-IsOkOrMemory statuses.Memory = Unit {0}
-IsOkOrMemory statuses.Refused = ⊥
-IsOkOrMemory statuses.Usage = ⊥
-IsOkOrMemory statuses.ReadFault = ⊥
-IsOkOrMemory statuses.WriteFault = ⊥
-IsOkOrMemory statuses.TooLong = ⊥
-IsOkOrMemory statuses.NotLegal = ⊥
 
 -- what a sink has after the answer to such an input, by the status: all of the text, a part of it, or nothing
 abbrev pub Answers : List ℕ → Option (List ℕ) → Option (List ℕ) → ℕ → ℕ → Status → Type 0

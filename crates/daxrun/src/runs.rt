@@ -3,13 +3,14 @@ ghost use Rattle.std.specs.List.{list_all};
 ghost use Rattle.std.specs.Io.KnownBytes.{Appends, Keeps, IsAtEnd};
 ghost use Rattle.plain_file.specs.Counts.{Rose};
 ghost use Rattle.program_io.specs.Causes.{AppendsPart, TakesAtMost, buffer};
+ghost use Rattle.program_io.specs.Runs.{IsExpected, IsUsageOrWriteFault, IsOkOrMemory};
 ghost use Rattle.program_io.specs.declared.statuses.Status.{Status};
 ghost use Rattle.dax_script.specs.declared.scripts.Script.{Script};
 ghost use Rattle.dax_script.specs.ScriptText.{BadLine, script_of};
 ghost use Rattle.dax_audit.specs.Legal.{IsLegal};
 ghost use Rattle.transcript_text.specs.TranscriptReading.{IsPrintable, transcript_of};
 ghost use Rattle.daxrun.specs.Carried.{is_carried_out, is_carried_call, IsPlayable};
-ghost use Rattle.daxrun.specs.Run.{limit, is_script_command, usage_line, refused_line, too_long_line, why_word, refusal, IsTextOf, IsAnswerTo, IsDue, due_status, IsExpected, IsUsageOrWriteFault, IsOkOrMemory, Answers};
+ghost use Rattle.daxrun.specs.Run.{limit, is_script_command, usage_line, refused_line, too_long_line, refusal, IsTextOf, IsAnswerTo, IsDue, due_status, Answers};
 
 use crate::plays::play;
 use crate::sessions::daemon_of;
@@ -180,28 +181,9 @@ fn refused_line(alloc: Global, line: u64, why: Why) -> Result<Blob, Memory>
     put(&mut out, b"refused line ")?;
     put_number(&mut out, line)?;
     put(&mut out, b" ")?;
-    put_why(&mut out, why)?;
+    put(&mut out, why.word().as_bytes())?;
     put(&mut out, b"\n")?;
     Ok(List::from_vec(out))
-}
-
-#[tactic(auto, unfolding(crate::specs::Run::why_word))]
-fn put_why(out: &mut Vec<u8>, why: Why) -> Result<(), Memory>
-    ensures { OnOk result (out.new.items ≡ out.old.items ++ why_word why) }
-{
-    match why {
-        Why::Order => put(out, b"order"),
-        Why::Words => put(out, b"words"),
-        Why::Number => put(out, b"number"),
-        Why::Limit => put(out, b"limit"),
-        Why::Name => put(out, b"name"),
-        Why::File => put(out, b"file"),
-        Why::Hold => put(out, b"hold"),
-        Why::Hex => put(out, b"hex"),
-        Why::Byte => put(out, b"byte"),
-        Why::Mode => put(out, b"mode"),
-        Why::Window => put(out, b"window"),
-    }
 }
 
 // The text of the transcript of a script's run.

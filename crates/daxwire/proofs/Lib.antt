@@ -1,4 +1,5 @@
 pub mod ReadForms
-pub mod RingRuns
+pub mod WholeRuns
 pub mod ServedChains
 pub mod ServingChains
+pub mod Divided

@@ -10,6 +10,7 @@ command_named name =
     if bytes_eq name (codes "show") then Some commands.Show
     else if bytes_eq name (codes "serve") then Some commands.Serve
     else if bytes_eq name (codes "ring") then Some commands.Ring
+    else if bytes_eq name (codes "audit") then Some commands.Audit
     else None
 
 -- the command that words are: one word, its name

@@ -1,3 +1,5 @@
+pub mod Wholes
+pub mod AuditText
 pub mod Commands
 pub mod RingText
 pub mod Run

@@ -1,5 +1,5 @@
 -- What `ring` prints: four lines for each chain that is served, and a last line.
-use Rattle.std.specs.Prelude.{ℕ, zero, suc, nat_lt, List, [], ◌∷◌, ◌++◌, length, codes, Option, Some, None, Result, Ok, Err, if◌then◌else◌}
+use Rattle.std.specs.Prelude.{ℕ, zero, suc, List, [], ◌∷◌, ◌++◌, length, codes, Option, Some, None, Result, Ok, Err}
 use Rattle.std.specs.Fmt.{decimal}
 use Rattle.hex.specs.Hex.{encode_lower}
 use Rattle.sha2.specs.Sha256.{sha256}
@@ -13,8 +13,8 @@ use Rattle.vring.specs.declared.chains.Chain.{Chain}
 use Rattle.vring.specs.declared.faults.RingFault.{RingFault}
 use Rattle.vring.specs.declared.faults.RingFault.TheVariants as faults
 use Rattle.vring.specs.Pieces.{total}
-use Rattle.chain_stream.specs.Frames.{limit}
 use Rattle.daxwire.specs.Show.{chain_line}
+use Rattle.daxwire.specs.Wholes.{Due}
 use Rattle.dax_device.specs.Answers.{reply_in}
 use Rattle.dax_device.specs.Queues.{DeviceView, answer_to, answered, next_of, offered, popped, readable_in}
 use Rattle.dax_device.specs.RingImage.{device_in}
@@ -107,10 +107,6 @@ left_by None memory = Ok memory
 left_by (Some fault) memory = Err fault
 
 -- the text and the status that are due
-pub record Due : Type 0 where
-  pub text : List ℕ
-  pub status : Status
-
 abbrev pub due_of : Option DeviceView → Due
 due_of None = record { text = codes "malformed image\n"; status = statuses.Refused }
 due_of (Some d) = record { text = text_of (all_served d); status = status_after (all_served d).left }
@@ -118,26 +114,3 @@ due_of (Some d) = record { text = text_of (all_served d); status = status_after 
 -- what is due for an input of at most so many bytes as are looked at
 unfoldable pub image_due : List ℕ → Due
 image_due input = due_of (device_in input)
-
--- what is due for a whole input
-unfoldable pub ring_due : List ℕ → Due
-ring_due input = if nat_lt limit (length input) then record { text = codes "too long\n"; status = statuses.TooLong } else image_due input
-
--- the text that is due
-abbrev pub ring_text : List ℕ → List ℕ
-ring_text input = (ring_due input).text
-
--- the status that is due
-abbrev pub ring_status : List ℕ → Status
-ring_status input = (ring_due input).status
-
--- the statuses of an input that was answered
-abbrev pub IsAnswered : Status → Type 0
-IsAnswered statuses.Ok = Unit {0}
-IsAnswered statuses.Refused = Unit {0}
-IsAnswered statuses.TooLong = Unit {0}
-IsAnswered statuses.Usage = ⊥
-IsAnswered statuses.ReadFault = ⊥
-IsAnswered statuses.WriteFault = ⊥
-IsAnswered statuses.Memory = ⊥
-IsAnswered statuses.NotLegal = ⊥

@@ -9,7 +9,9 @@ use Rattle.daxwire.specs.Commands.{command_of}
 use Rattle.chain_stream.specs.Courses.{Course, IsCutOff, course_by, course_of, due, status_of}
 use Rattle.dax_device.specs.Devices.{first_world}
 use Rattle.daxwire.specs.Serve.{fault_output, outputs}
-use Rattle.daxwire.specs.RingText.{ring_text, ring_status}
+use Rattle.daxwire.specs.AuditText.{texts_due}
+use Rattle.daxwire.specs.RingText.{image_due}
+use Rattle.daxwire.specs.Wholes.{Due, due_by}
 use Rattle.daxwire.specs.Show.{frame_lines, end_line}
 
 abbrev pub usage_line : List ℕ
@@ -39,19 +41,29 @@ serve_text input = due served fault_output input
 abbrev pub serve_status : List ℕ → Status
 serve_status input = status_of (served.«end» input)
 
+-- what is due for a ring image
+abbrev pub ring_due : List ℕ → Due
+ring_due input = due_by image_due input
+
+-- what is due for a script and a transcript
+abbrev pub audit_due : List ℕ → Due
+audit_due input = due_by texts_due input
+
 -- the text that is due for an input: the command's, or the usage line where there is none
 abbrev pub text_of : Option Command → List ℕ → List ℕ
 text_of None input = usage_line
 text_of (Some commands.Show) input = show_text input
 text_of (Some commands.Serve) input = serve_text input
-text_of (Some commands.Ring) input = ring_text input
+text_of (Some commands.Ring) input = (ring_due input).text
+text_of (Some commands.Audit) input = (audit_due input).text
 
 -- the status that is due for it
 abbrev pub status_for : Option Command → List ℕ → Status
 status_for None input = statuses.Usage
 status_for (Some commands.Show) input = show_status input
 status_for (Some commands.Serve) input = serve_status input
-status_for (Some commands.Ring) input = ring_status input
+status_for (Some commands.Ring) input = (ring_due input).status
+status_for (Some commands.Audit) input = (audit_due input).status
 
 -- the text that is due for these words and this input
 abbrev pub due_text : List (List ℕ) → List ℕ → List ℕ
@@ -67,6 +79,7 @@ IsStopped None left left' taken taken' = ⊥
 IsStopped (Some commands.Show) left left' taken taken' = IsCutOff shown left left' taken taken'
 IsStopped (Some commands.Serve) left left' taken taken' = IsCutOff served left left' taken taken'
 IsStopped (Some commands.Ring) left left' taken taken' = Keeps taken taken'
+IsStopped (Some commands.Audit) left left' taken taken' = Keeps taken taken'
 
 -- where neither the source nor the sink failed, and memory was found
 abbrev pub IfFinished : Status → Type 0 → Type 0

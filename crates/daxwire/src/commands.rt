@@ -12,6 +12,8 @@ pub enum Command {
     Serve,
     /// To read a ring image, serve the chains that it offers, and print what came of them.
     Ring,
+    /// To read a script and a transcript, and tell whether the transcript is legal for the script.
+    Audit,
 }
 
 impl Command {
@@ -36,6 +38,8 @@ impl Command {
             Some(Command::Serve)
         } else if name == b"ring".as_slice() {
             Some(Command::Ring)
+        } else if name == b"audit".as_slice() {
+            Some(Command::Audit)
         } else {
             None
         }

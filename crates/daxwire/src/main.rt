@@ -1,17 +1,26 @@
 //! Shows what is recorded in a chain stream: each FUSE request, load and store as one line. Serves such a
-//! stream as a device, one output frame for each frame. And serves the chains that stand in a guest's
-//! memory, and prints what came of each.
+//! stream as a device, one output frame for each frame. Serves the chains that stand in a guest's
+//! memory, and prints what came of each. And audits the transcript of a script's run.
 //!
 //! `main` makes the real source, sink and words, and calls `runs::run_wire`, whose contract is the
 //! program's. A stream is cut into frames and answered by `chain_stream`, whatever the answers are:
-//! `shows` gives each frame its line, `serves` its output frame by a device of `dax_device`. A ring image
-//! is opened and served chain by chain by `dax_device` too; `ring_lines` has its lines, `rings` the whole.
+//! `shows` gives each frame its line, `serves` its output frame by a device of `dax_device`. What is read
+//! whole is answered by `wholes`, whatever the answer is. A ring image is opened and served chain by chain by
+//! `dax_device` too; `ring_lines` has its lines, `rings` the whole. `divides` parts a script from its
+//! transcript, and `audits` has `dax_audit` judge them.
 //!
-//! The definitions stand in `specs/`: `Show` (the lines), `Serve` (the output frames), `RingText` (what
-//! serving a ring image prints), `Commands` and `Run` (what a run writes with which status).
+//! The definitions stand in `specs/`: `Show` (the lines), `Serve` (the output frames), `Wholes` (what is
+//! due for an input that is read whole), `RingText` (what serving a ring image prints), `AuditText` (what an
+//! audit prints), `Commands` and `Run` (what a run writes with which status).
 #![tactic(auto)]
 
+#[cfg(test)]
+mod audit_table;
+#[cfg(test)]
+mod audit_tests;
+mod audits;
 mod commands;
+mod divides;
 #[cfg(test)]
 mod peer_tests;
 mod ring_lines;
@@ -31,6 +40,7 @@ mod shows;
 mod stream_tests;
 #[cfg(test)]
 mod tables;
+mod wholes;
 
 use plain_file::Memory;
 use program_io::{Status, StdSink, StdSource, command_words};

@@ -663,7 +663,7 @@ begin rings
 source 0 1
 say usage: daxwire show | serve | ring | audit
 usage
-begin audit
+begin audits
 source 0 1
 say usage: daxwire show | serve | ring | audit
 usage

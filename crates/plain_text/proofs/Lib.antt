@@ -3,3 +3,4 @@ pub mod Numerals
 pub mod CleanWords
 pub mod PrintedLines
 pub mod HexPairs
+pub mod FirstPlaces

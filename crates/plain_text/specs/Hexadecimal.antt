@@ -1,5 +1,5 @@
 -- The bytes that a word writes in hexadecimal.
-use Rattle.std.specs.Prelude.{ℕ, ◌+◌, ◌-◌, ◌*◌, ◌==◌, ◌&&◌, nat_le, List, [], ◌∷◌, length, Option, Some, None, if◌then◌else◌}
+use Rattle.std.specs.Prelude.{ℕ, ◌+◌, ◌-◌, ◌*◌, ◌==◌, ◌&&◌, Bool, nat_le, List, [], ◌∷◌, length, Option, Some, None, is_some, if◌then◌else◌}
 use Rattle.plain_text.specs.Options.{◌>>=◌}
 
 -- the value of a digit: `0` to `9` are 48 to 57, and `a` to `f` are 97 to 102
@@ -8,6 +8,9 @@ hex_digit c =
     if nat_le 48 c && nat_le c 57 then Some (c - 48)
     else if nat_le 97 c && nat_le c 102 then Some (c - 87)
     else None
+
+abbrev pub is_digit : ℕ → Bool
+is_digit c = is_some (hex_digit c)
 
 -- the byte of two digits
 abbrev pub hex_pair : ℕ → ℕ → Option ℕ

@@ -1,6 +1,8 @@
 ghost use Rattle.std.specs.Prelude.{◌≡◌, ◌<◌, ◌∷◌, [], List, ℕ, length, position, IfSome, MatchOption};
 ghost use Rattle.plain_text.specs.Words.{parts, is_byte, words_of};
 
+use memchr::memchr;
+
 /// The part of `bytes` up to the first separator, and what lies behind the separator; without a
 /// separator the part is all of `bytes`, and None lies behind it.
 pub fn cut(bytes: &[u8], separator: u8) -> (&[u8], Option<&[u8]>)
@@ -21,7 +23,7 @@ fn place_of(bytes: &[u8], separator: u8) -> Option<usize>
     ensures value { result ≡ position (is_byte separator) bytes.now }
     ensures within { IfSome result (λ at. at < length bytes.now) }
 {
-    bytes.iter().position(|b| *b == separator)
+    memchr(separator, bytes)
 }
 
 /// The next word of a line, without the spaces round it, and what lies behind the word; None where

@@ -1,5 +1,6 @@
-ghost use Rattle.std.specs.Prelude.{◌≡◌, ◌<◌, IfOk, IfSome};
-ghost use Rattle.plain_text.specs.Hexadecimal.{hex_digit, hex_pair, hex_pairs, hex_of, hex_byte_of};
+ghost use Rattle.std.specs.Prelude.{◌≡◌, ◌<◌, ◌*◌, true, length, Some, IfOk, IfSome};
+ghost use Rattle.std.specs.List.{list_all};
+ghost use Rattle.plain_text.specs.Hexadecimal.{hex_digit, is_digit, hex_pair, hex_pairs, hex_of, hex_byte_of};
 
 use plain_file::{Blob, Memory};
 use std::alloc::Global;
@@ -16,23 +17,58 @@ pub fn hex_bytes(alloc: Global, word: &[u8]) -> Result<Option<Blob>, Memory>
     pairs(alloc, word)
 }
 
-#[tactic(auto, using(crate::proofs::HexPairs::hex_steps), unfolding(crate::specs::Hexadecimal::hex_pairs))]
 fn pairs(alloc: Global, word: &[u8]) -> Result<Option<Blob>, Memory>
     ensures { IfOk result (λ o. o ≡ hex_pairs word.now) }
 {
-    let mut bytes = Vec::with_capacity(alloc, word.len() / 2)?;
-    let mut rest = word;
-    while rest.len() >= 2 {
-        let Some(byte) = pair(rest[0], rest[1]) else {
-            return Ok(None);
-        };
-        bytes.push(byte)?;
-        rest = rest.split_at(2).1;
-    }
-    if !rest.is_empty() {
+    let half = word.len() / 2;
+    if word.len() != 2 * half {
         return Ok(None);
     }
+    if !are_digits(word) {
+        return Ok(None);
+    }
+    let mut bytes = vec![in alloc; 0; half]?;
+    write_pairs(&mut bytes, word);
     Ok(Some(Blob::from_vec(bytes)))
+}
+
+// Without a way out before the end, so that the compiler makes a loop over several bytes at once of it.
+#[tactic(auto, using(std::proofs::lemmas::List::Folds::list_all_more))]
+fn are_digits(word: &[u8]) -> bool
+    ensures { result ≡ list_all is_digit word.now }
+{
+    let mut all = true;
+    for i in 0..word.len() {
+        all = all & is_digit(word[i]);
+    }
+    all
+}
+
+fn is_digit(c: u8) -> bool
+    ensures { result ≡ is_digit c }
+{
+    digit(c).is_some()
+}
+
+// The bytes of digits, two a byte.
+fn write_pairs(bytes: &mut [u8], word: &[u8])
+    requires digits { list_all is_digit word.now ≡ true }
+    requires pairs { length word.now ≡ 2 * length bytes.old }
+    ensures { hex_pairs word.now ≡ Some bytes.new }
+{
+    for i in 0..bytes.len() {
+        bytes[i] = value(word[2 * i]) * 16 + value(word[2 * i + 1]);
+    }
+}
+
+// The value of a digit, without a branch.
+fn value(c: u8) -> u8
+    requires { is_digit c ≡ true }
+    ensures value { hex_digit c ≡ Some result }
+    ensures most { result < 16 }
+{
+    let zero = if c > b'9' { b'a' - 10 } else { b'0' };
+    c - zero
 }
 
 /// The byte that a word of two lower case hexadecimal digits writes; None for another word.

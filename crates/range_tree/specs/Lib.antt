@@ -1,3 +1,4 @@
 pub mod Logs
 pub mod Trees
 pub mod Behind
+pub mod Ranges

@@ -1,13 +1,16 @@
-//! Where the chunks of a file are placed in the window's ranges: a file's tree with its placement log.
+//! Where the chunks of a file are placed in the window's ranges: a file's tree with its placement log, and
+//! the boards by which guests take ranges, pin them, and place chunks in them.
 //!
 //! The types stand beside the board of pages, in `page_map`, and so does what a log says by itself: which
 //! of its entries are live, what is placed at its end, which logs are sound. Here stand in `specs/`
-//! `Trees` (what a log and the table of a tree say of each other, and what a tree's calls make of a log) and
-//! `Logs` (what an entry places as seen from later on, and where a log is unsound first).
+//! `Trees` (what a log and the table of a tree say of each other, and what a tree's calls make of a log),
+//! `Logs` (what an entry places as seen from later on, what is found of a chunk, and where a log is unsound
+//! first) and `Ranges` (what the calls of a board of ranges make of its view).
 //!
 //! This is the bookkeeping of the interval tree of a DAX inode in Linux `fs/fuse/dax.c`.
 #![tactic(auto)]
 
+mod boards;
 mod liveness;
 mod lives;
 mod slots;
@@ -16,6 +19,7 @@ mod tests;
 mod trees;
 mod unsound;
 
+pub use boards::RangeBoard;
 pub use liveness::is_live;
 pub use lives::Lives;
 pub use page_map::{LogEntry, Look, Placed, RangeWord, Target};

@@ -5,3 +5,7 @@ pub mod Printed
 pub mod Drafted
 pub mod Named
 pub mod LinesRead
+pub mod Bounds
+pub mod LinesFrom
+pub mod TextFits
+pub mod OneByte

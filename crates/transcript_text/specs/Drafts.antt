@@ -1,7 +1,7 @@
 -- The words behind a word, and a transcript that is read so far.
-use Rattle.std.specs.Prelude.{◌≡◌, ℕ, List, [], ◌∷◌, ◌++◌, Option, Some, None, option_map, MatchOption, ⊤, Bool, false, ◌==◌, Result, Err}
+use Rattle.std.specs.Prelude.{◌≡◌, ℕ, ◌+◌, codes, List, [], ◌∷◌, ◌++◌, Option, Some, None, option_map, MatchOption, ⊤, Bool, false, ◌==◌, Result, Err}
 use Rattle.std.specs.Borrow.{Bor}
-use Rattle.plain_text.specs.Words.{parts, space}
+use Rattle.plain_text.specs.Words.{parts, space, line_end}
 use Rattle.transcript_text.specs.declared.transcripts.EntryLine.{EntryLine}
 use Rattle.transcript_text.specs.declared.transcripts.FilePart.{FilePart}
 use Rattle.transcript_text.specs.declared.transcripts.GuestPart.{GuestPart}
@@ -11,10 +11,9 @@ use Rattle.transcript_text.specs.declared.transcripts.Numbered.{Numbered}
 use Rattle.transcript_text.specs.declared.transcripts.Transcript.{Transcript}
 use Rattle.transcript_text.specs.declared.transcripts.BadTranscript.{BadTranscript}
 use Rattle.transcript_text.specs.declared.transcripts.BadTranscript.TheVariants as bad
-use Rattle.plain_text.specs.Hexadecimal.{hex_of}
 use Rattle.plain_text.specs.Options.{◌>>=◌}
 use Rattle.page_map.specs.declared.ranges.LogEntry.{LogEntry}
-use Rattle.transcript_text.specs.TranscriptReading.{only_byte, number_32, number_64, via_of, Reading, Start, Version, Parts, Ended, onto_last, with_entry, with_log, with_line}
+use Rattle.transcript_text.specs.TranscriptReading.{number_32, number_64, via_of, Reading, Start, Version, Parts, Ended, onto_last, with_entry, with_log, with_line, line_read, or_line, transcript_from}
 use Rattle.transcript_text.specs.declared.drafts.Draft.{Draft}
 
 -- the words of what lies behind a space; none where there is no space
@@ -91,6 +90,11 @@ abbrev pub IsCause : BadTranscript → Result Transcript ℕ → Type 0
 IsCause (bad.Line line) r = r ≡ Err line
 IsCause bad.Memory r = ⊤
 
--- the byte that a file begins with
-abbrev pub fill_from : List ℕ → Option ℕ
-fill_from word = hex_of word >>= only_byte
+-- the same of the n-th line: it gives no reading
+abbrev pub IsBadLine : BadTranscript → ℕ → Option Reading → Type 0
+IsBadLine (bad.Line line) n read = (line ≡ n) × (read ≡ None)
+IsBadLine bad.Memory n read = ⊤
+
+-- the transcript of the n-th line, `end`, with the words behind it, and of the text behind that line
+abbrev pub at_end : ℕ → Reading → List (List ℕ) → List ℕ → Result Transcript ℕ
+at_end n r words after = or_line n (line_read r (codes "end" ∷ words)) (λ next. transcript_from (n + 1) next (parts line_end after))

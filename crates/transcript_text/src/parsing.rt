@@ -1,7 +1,8 @@
-ghost use Rattle.std.specs.Prelude.{◌≡◌, ◌∷◌, ◌++◌, ◌≤◌, ◌+◌, codes, false, is_some, length, option_map, if◌then◌else◌, Some, None, Ok, IfOk, IfErr, IfSome};
+ghost use Rattle.std.specs.Prelude.{◌≡◌, ◌∷◌, ◌++◌, ◌<◌, ◌+◌, ◌^◌, codes, true, false, is_some, length, option_map, if◌then◌else◌, Some, None, Ok, IfOk, IfErr, IfSome};
 ghost use Rattle.std.specs.Str.{bytes_eq};
 ghost use Rattle.plain_text.specs.Words.{parts, space, line_end};
-ghost use Rattle.transcript_text.specs.Drafts.{behind, listed, is_one, IsDraft, IsCause, reading_of, parts_from, start, version};
+ghost use Rattle.transcript_text.specs.Fits.{fits};
+ghost use Rattle.transcript_text.specs.Drafts.{at_end, IsBadLine, behind, listed, is_one, IsDraft, IsCause, reading_of, parts_from, start, version};
 ghost use Rattle.transcript_text.specs.TranscriptReading.{number_32, file_read, entry_read, log_read, guest_read, call_read, line_read, transcript_from, transcript_of};
 
 use crate::drafts::{Draft, add_entry, add_line, add_log, ended, new_draft, with_file, with_guest};
@@ -141,4 +142,105 @@ fn draft_line(
     } else {
         call_line(alloc, draft, verb, more)
     }
+}
+
+// The draft after the `line`-th line, which isn't `end`.
+fn next_line(
+    alloc: Global,
+    draft: Draft,
+    verb: &[u8],
+    more: Option<&[u8]>,
+    line: u64,
+) -> Result<Draft, BadTranscript>
+    requires sound { IsDraft draft }
+    requires goes_on { bytes_eq verb.now (codes "end") ≡ false }
+    ensures value { IfOk result (λ d. line_read (reading_of draft) (verb.now ∷ behind more.entry) ≡ Some (reading_of d)) }
+    ensures cause { IfErr result (λ e. IsBadLine e line (line_read (reading_of draft) (verb.now ∷ behind more.entry))) }
+    ensures sound { IfOk result IsDraft }
+{
+    match draft_line(alloc, draft, verb, more) {
+        Ok(Some(draft)) => Ok(draft),
+        Ok(None) => Err(BadTranscript::Line { line }),
+        Err(_) => Err(BadTranscript::Memory),
+    }
+}
+
+// The transcript that a draft is at the `line`-th line, which is `end`, by what lies behind the word and
+// behind the line.
+#[tactic(auto, using(crate::proofs::LinesFrom::end_followed, crate::proofs::LinesFrom::end_not_last, crate::proofs::LinesFrom::end_last))]
+fn end_line(
+    draft: Draft,
+    more: Option<&[u8]>,
+    after: &[u8],
+    line: u64,
+) -> Result<Transcript, BadTranscript>
+    requires { line + 1 < 2 ^ 64 }
+    ensures value { IfOk result (λ t. at_end line (reading_of draft) (behind more.entry) after.now ≡ Ok t) }
+    ensures cause { IfErr result (λ e. IsCause e (at_end line (reading_of draft) (behind more.entry) after.now)) }
+{
+    if more.is_some() {
+        return Err(BadTranscript::Line { line });
+    }
+    if !after.is_empty() {
+        return Err(BadTranscript::Line { line: line + 1 });
+    }
+    match ended(draft) {
+        Ok(transcript) => Ok(transcript),
+        Err(_) => Err(BadTranscript::Memory),
+    }
+}
+
+// The transcript of a draft and of the rest of a text, which begins with the `line`-th line.
+#[tactic(auto, using(crate::proofs::LinesFrom::from_short), unfolding(crate::specs::TranscriptReading::whole))]
+fn parse_from(
+    alloc: Global,
+    mut draft: Draft,
+    mut rest: &[u8],
+    mut line: u64,
+) -> Result<Transcript, BadTranscript>
+    requires sound { IsDraft draft }
+    requires counted { line + length rest.now < 2 ^ 64 }
+    ensures value { IfOk result (λ t. transcript_from line (reading_of draft) (parts line_end rest.now) ≡ Ok t) }
+    ensures cause { IfErr result (λ e. IsCause e (transcript_from line (reading_of draft) (parts line_end rest.now))) }
+{
+    loop {
+        let (first, after) = cut(rest, b'\n');
+        let Some(after) = after else {
+            return Err(BadTranscript::Line { line });
+        };
+        let (verb, more) = first_word(first);
+        if verb == b"end".as_slice() {
+            return end_line(draft, more, after, line);
+        }
+        draft = next_line(alloc, draft, verb, more, line)?;
+        line += 1;
+        rest = after;
+    }
+}
+
+/// The transcript that a text is, where it is one; else its first bad line, or `Memory`, which says nothing of the text.
+///
+/// The transcript is within the bounds of its form, so the text that [`print`](crate::print) writes of it is read as it
+/// again.
+#[tactic(auto, using(crate::proofs::LinesFrom::from_short), unfolding(crate::specs::TranscriptReading::transcript_of, crate::specs::TranscriptReading::whole))]
+pub fn parse(alloc: Global, text: &[u8]) -> Result<Transcript, BadTranscript>
+    ensures value { IfOk result (λ t. transcript_of text.now ≡ Ok t) }
+    ensures cause { IfErr result (λ e. IsCause e (transcript_of text.now)) }
+    ensures fits { IfOk result (λ t. fits t ≡ true) }
+{
+    let (first, rest) = cut(text, b'\n');
+    let Some(rest) = rest else {
+        return Err(BadTranscript::Line { line: 1 });
+    };
+    if !is_version_line(first) {
+        return Err(BadTranscript::Line { line: 1 });
+    }
+    let (second, rest) = cut(rest, b'\n');
+    let Some(rest) = rest else {
+        return Err(BadTranscript::Line { line: 2 });
+    };
+    let Some(ranges) = ranges_line(second) else {
+        return Err(BadTranscript::Line { line: 2 });
+    };
+    parse_from(alloc, new_draft(alloc, ranges), rest, 3)
 }

@@ -2,13 +2,13 @@ ghost use Rattle.std.specs.Prelude.{◌≡◌, ◌∷◌, [], Some, None, if◌t
 ghost use Rattle.std.specs.List.{list_all};
 ghost use Rattle.plain_text.specs.Words.{parts, space};
 ghost use Rattle.dax_script.specs.ScriptWords.{is_script_name, is_script_name_byte};
-ghost use Rattle.transcript_text.specs.Drafts.{behind, fill_from, leased_of, past_of, held_of};
-ghost use Rattle.transcript_text.specs.TranscriptReading.{number_32, number_64, only_byte, bytes_of, through_of, way_of, answer_of_words, is_letter, is_letters, via_of, mode_of, log_of_words, line_of_words, numbered_of, entry_of_words, file_of_words, guest_of_words};
+ghost use Rattle.transcript_text.specs.Drafts.{behind, leased_of, past_of, held_of};
+ghost use Rattle.transcript_text.specs.TranscriptReading.{number_32, number_64, bytes_of, through_of, way_of, answer_of_words, is_letter, is_letters, via_of, mode_of, log_of_words, line_of_words, numbered_of, entry_of_words, file_of_words, guest_of_words};
 
 use crate::transcripts::{EntryLine, FilePart, GuestPart, Line, Numbered};
 use page_map::Mode;
 use plain_file::{Answer, Blob, First, List, Memory, Name, Through, Way};
-use plain_text::{cut, hex_bytes, number_up_to};
+use plain_text::{cut, hex_byte, hex_bytes, number_up_to};
 use range_tree::LogEntry;
 use std::alloc::Global;
 
@@ -246,7 +246,7 @@ fn via(verb: &[u8], more: Option<&[u8]>) -> Option<Through>
     through(entry, upto)
 }
 
-fn are_letters(word: &[u8]) -> bool
+pub(crate) fn are_letters(word: &[u8]) -> bool
     ensures { result ≡ is_letters word.now }
 {
     !word.is_empty() && has_letters(word)
@@ -374,7 +374,7 @@ pub(crate) fn numbered(
 }
 
 /// The file that words tell, without an entry so far.
-#[tactic(auto, unfolding(crate::specs::TranscriptReading::file_of_words))]
+#[tactic(auto, using(crate::proofs::OneByte::byte_alone), unfolding(crate::specs::TranscriptReading::file_of_words))]
 pub(crate) fn file(alloc: Global, more: Option<&[u8]>) -> Result<Option<FilePart>, Memory>
     ensures { IfOk result (λ o. o ≡ file_of_words (behind more.entry)) }
 {
@@ -396,7 +396,7 @@ pub(crate) fn file(alloc: Global, more: Option<&[u8]>) -> Result<Option<FilePart
     let Some(size) = number_64(size) else {
         return Ok(None);
     };
-    let Some(fill) = fill_of(alloc, byte)? else {
+    let Some(fill) = hex_byte(byte) else {
         return Ok(None);
     };
     Ok(Some(FilePart {
@@ -407,19 +407,6 @@ pub(crate) fn file(alloc: Global, more: Option<&[u8]>) -> Result<Option<FilePart
     }))
 }
 
-#[tactic(auto, unfolding(crate::specs::TranscriptReading::only_byte))]
-fn fill_of(alloc: Global, word: &[u8]) -> Result<Option<u8>, Memory>
-    ensures { IfOk result (λ o. o ≡ fill_from word.now) }
-{
-    let Some(bytes) = hex_bytes(alloc, word)? else {
-        return Ok(None);
-    };
-    match bytes.as_slice() {
-        [byte] => Ok(Some(*byte)),
-        _ => Ok(None),
-    }
-}
-
 fn has_name_bytes(word: &[u8]) -> bool
     ensures { result ≡ list_all is_script_name_byte word.now }
 {
@@ -427,7 +414,7 @@ fn has_name_bytes(word: &[u8]) -> bool
         .all(|b| matches!(*b, b'a'..=b'z' | b'0'..=b'9' | b'_' | b'-'))
 }
 
-fn has_name_form(word: &[u8]) -> bool
+pub(crate) fn has_name_form(word: &[u8]) -> bool
     ensures { result ≡ is_script_name word.now }
 {
     !word.is_empty() && word.len() <= 32 && has_name_bytes(word)

@@ -20,14 +20,21 @@ fn zeros(alloc: Global, len: usize) -> Result<GuestMem, Memory>
     Ok(GuestMem::new(Blob::from_vec(vec![in alloc; 0u8; len]?)))
 }
 
-// Asserts that the memory has the bytes of a text from a place on.
-fn has(rt: &impl Abort, alloc: Global, mem: &GuestMem, at: usize, text: &str) -> Result<(), Fail> {
-    let wanted = bytes_of(alloc, text)?;
-    let bytes = mem.as_slice();
-    let end = at.wrapping_add(wanted.len());
-    assert!(rt;
-        at <= end && end <= bytes.len() && &bytes[at..end] == wanted.as_slice(),
-        "{text} at {at}"
-    );
+// Asserts that the memory has the bytes of each text from its place on.
+fn has(
+    rt: &impl Abort,
+    alloc: Global,
+    mem: &GuestMem,
+    places: &[(usize, &str)],
+) -> Result<(), Fail> {
+    for (at, text) in places.iter().copied() {
+        let wanted = bytes_of(alloc, text)?;
+        let bytes = mem.as_slice();
+        let end = at.wrapping_add(wanted.len());
+        assert!(rt;
+            at <= end && end <= bytes.len() && &bytes[at..end] == wanted.as_slice(),
+            "{text} at {at}"
+        );
+    }
     Ok(())
 }

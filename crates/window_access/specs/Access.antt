@@ -1,5 +1,5 @@
 -- Loads and stores through the window: which are refused, what a load gives, and what a store leaves.
-use Rattle.std.specs.Prelude.{◌≡◌, ◌≢◌, ℕ, zero, suc, ◌+◌, ◌-◌, ◌*◌, ◌/◌, ◌<◌, ◌≤◌, min, max, Bool, true, false, not, nat_le, List, [], ◌∷◌, length, map, take, drop, slice_get, slice_index_or, Option, Some, None, unwrap_or, Result, Ok, Err}
+use Rattle.std.specs.Prelude.{◌≡◌, ◌≢◌, ℕ, zero, suc, ◌+◌, ◌-◌, ◌*◌, ◌/◌, ◌<◌, ◌≤◌, min, max, Bool, true, false, not, nat_le, List, [], ◌∷◌, ◌++◌, length, map, take, drop, slice_get, slice_index_or, Option, Some, None, unwrap_or, Result, Ok, Err}
 use Rattle.std.specs.List.{range_with_len, find}
 use Rattle.std.specs.Option.{option_map, option_or}
 use Rattle.page_map.specs.Board.{MapView, NamesFiles, mapped_byte}
@@ -113,6 +113,14 @@ Loads v map moffset len (Err (refusals.Unmapped at)) = load_refusal v map moffse
 Loads v map moffset len (Err (refusals.ReadOnly at)) = load_refusal v map moffset len ≡ Some (refusals.ReadOnly at)
 Loads v map moffset len (Err (refusals.PastEnd at)) = load_refusal v map moffset len ≡ Some (refusals.PastEnd at)
 Loads v map moffset len (Err refusals.Memory) = load_refusal v map moffset len ≡ None
+
+-- the same of a load that adds its bytes at the end of others
+abbrev pub LoadsInto : BoardView → MapView → ℕ → ℕ → List ℕ → Result (Unit {0}) WindowRefusal → List ℕ → Type 0
+LoadsInto v map moffset len old (Ok u) new = (load_refusal v map moffset len ≡ None) × (new ≡ old ++ loaded v map moffset len)
+LoadsInto v map moffset len old (Err (refusals.Unmapped at)) new = (load_refusal v map moffset len ≡ Some (refusals.Unmapped at)) × (new ≡ old)
+LoadsInto v map moffset len old (Err (refusals.ReadOnly at)) new = (load_refusal v map moffset len ≡ Some (refusals.ReadOnly at)) × (new ≡ old)
+LoadsInto v map moffset len old (Err (refusals.PastEnd at)) new = (load_refusal v map moffset len ≡ Some (refusals.PastEnd at)) × (new ≡ old)
+LoadsInto v map moffset len old (Err refusals.Memory) new = (load_refusal v map moffset len ≡ None) × (new ≡ old)
 
 -- ---- stores
 

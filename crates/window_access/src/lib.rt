@@ -15,6 +15,6 @@ mod stores;
 #[cfg(test)]
 mod tests;
 
-pub use loads::load_window;
+pub use loads::{load_window, load_window_into};
 pub use refusals::WindowRefusal;
 pub use stores::store_window;

@@ -1,8 +1,8 @@
-ghost use Rattle.std.specs.Prelude.{◌≡◌, ◌<◌, ◌≤◌, ◌+◌, ◌%◌, ◌^◌, true, length, IfOk};
+ghost use Rattle.std.specs.Prelude.{◌≡◌, ◌<◌, ◌≤◌, ◌+◌, ◌%◌, ◌^◌, true, length, IfOk, OnOk};
 ghost use Rattle.plain_file.specs.Limits.{max_transfer};
 ghost use Rattle.window_access.specs.declared.refusals.Cause.TheVariants as causes;
 ghost use Rattle.page_map.specs.Board.{NamesFiles};
-ghost use Rattle.window_access.specs.Access.{CanAccess, IsGranted, Loads, AreShown, loaded};
+ghost use Rattle.window_access.specs.Access.{CanAccess, IsGranted, Loads, LoadsInto, AreShown, loaded};
 
 use crate::checks::{check_load, in_page};
 use crate::refusals::WindowRefusal;
@@ -32,12 +32,37 @@ pub fn load_window<F: FileBoard>(
     ensures shown { IfOk result (AreShown (F.board files.old) map.now moffset len) }
     ensures same { F.board files.new ≡ F.board files.old }
 {
+    let mut bytes = Vec::new(alloc);
+    load_window_into(files, map, moffset, len, &mut bytes)?;
+    Ok(Blob::from_vec(bytes))
+}
+
+/// Loads the `len` bytes of the window from the offset `moffset` on as [`load_window`] does, and adds them at
+/// the end of `out`. After an error `out` has its old bytes.
+pub fn load_window_into<F: FileBoard>(
+    files: &mut F,
+    map: &PageMap,
+    moffset: u64,
+    len: u32,
+    out: &mut Vec<u8>,
+) -> Result<(), WindowRefusal>
+    requires plain { (F.board files.old).plain ≡ true }
+    requires names { NamesFiles (length (F.board files.old).files) map.now }
+    requires small { len ≤ max_transfer }
+    ensures loads { LoadsInto (F.board files.old) map.now moffset len out.old.items result out.new.items }
+    ensures shown { OnOk result (AreShown (F.board files.old) map.now moffset len (loaded (F.board files.old) map.now moffset len)) }
+    ensures same { F.board files.new ≡ F.board files.old }
+{
     check_load(files, map, moffset, u64::from(len))?;
-    let Ok(mut bytes) = vec![in alloc; 0; len as usize] else {
+    let start = out.len();
+    let Some(end) = start.checked_add(len as usize) else {
         return Err(WindowRefusal::Memory);
     };
-    load(files, map, moffset, &mut bytes);
-    Ok(Blob::from_vec(bytes))
+    if out.resize(end, 0).is_err() {
+        return Err(WindowRefusal::Memory);
+    }
+    load(files, map, moffset, &mut out.as_mut_slice()[start..]);
+    Ok(())
 }
 
 // The bytes of one page, which can all be loaded.

@@ -414,7 +414,7 @@ impl Device {
                 self.ring.push_used(&mut self.mem, head, len);
                 Ok(())
             }
-            Step::Has(at, text) => has(rt, alloc, &self.mem, at, text),
+            Step::Has(at, text) => has(rt, alloc, &self.mem, &[(at, text)]),
             Step::Counts(seen, used) => {
                 assert!(rt; self.ring.seen() == seen && self.ring.used_index() == used);
                 Ok(())

@@ -66,18 +66,6 @@ const OFFERED_AGAIN: [(usize, &str); 4] = [
     (128, "616263 00"),
 ];
 
-fn check_places(
-    rt: &impl Abort,
-    alloc: Global,
-    mem: &GuestMem,
-    places: &[(usize, &str)],
-) -> Result<(), Fail> {
-    for (at, text) in places.iter().copied() {
-        has(rt, alloc, mem, at, text)?;
-    }
-    Ok(())
-}
-
 #[test]
 fn offers_by_exact_bytes(rt: HostRuntime) -> Result<(), Fail> {
     powers_of_two_are_queue_sizes();
@@ -88,7 +76,7 @@ fn offers_by_exact_bytes(rt: HostRuntime) -> Result<(), Fail> {
     assert!(rt; side.mem.len() == 328 && side.mem.as_slice().iter().all(|b| *b == 0));
     side.is_at(&rt, 0, 0, None);
     side.offer(&rt, b"abc", 7);
-    check_places(&rt, alloc, &side.mem, &OFFERED)?;
+    has(&rt, alloc, &side.mem, &OFFERED)?;
     side.is_at(&rt, 1, 0, Some(7));
     side.takes(&rt, Ok(None));
     side.hand_back(&rt)?;
@@ -96,7 +84,7 @@ fn offers_by_exact_bytes(rt: HostRuntime) -> Result<(), Fail> {
     side.takes(&rt, Ok(None));
     side.mem.write(64, &[9; 8])?;
     side.offer(&rt, b"", 0);
-    check_places(&rt, alloc, &side.mem, &OFFERED_AGAIN)
+    has(&rt, alloc, &side.mem, &OFFERED_AGAIN)
 }
 
 // With room for seven bytes, the used ring's index and its first entry's `id` and `len`, and what is taken.
@@ -124,28 +112,22 @@ const ENTRIES: [Entry; 11] = [
     (65_535, 1, 8, Err(BadUsed { id: 1, len: 8 })),
 ];
 
-fn check_entry(rt: &impl Abort, side: &mut Offering, entry: Entry) -> Result<(), Fail> {
-    let (index, id, len, wanted) = entry;
-    side.offer(rt, b"", 7);
-    side.mem.write(90, &index.to_le_bytes())?;
-    side.mem.write(92, &id.to_le_bytes())?;
-    side.mem.write(96, &len.to_le_bytes())?;
-    side.takes(rt, wanted);
-    if matches!(wanted, Ok(Some(_))) {
-        side.is_at(rt, 1, 1, None);
-    } else {
-        side.takes(rt, wanted);
-        side.is_at(rt, 1, 0, Some(7));
-    }
-    Ok(())
-}
-
 #[test]
 fn takes_its_own_chain_alone(rt: HostRuntime) -> Result<(), Fail> {
     powers_of_two_are_queue_sizes();
-    for entry in ENTRIES {
+    for (index, id, len, wanted) in ENTRIES {
         let mut side = Offering::new(rt.alloc(), 4)?;
-        check_entry(&rt, &mut side, entry)?;
+        side.offer(&rt, b"", 7);
+        side.mem.write(90, &index.to_le_bytes())?;
+        side.mem.write(92, &id.to_le_bytes())?;
+        side.mem.write(96, &len.to_le_bytes())?;
+        side.takes(&rt, wanted);
+        if matches!(wanted, Ok(Some(_))) {
+            side.is_at(&rt, 1, 1, None);
+        } else {
+            side.takes(&rt, wanted);
+            side.is_at(&rt, 1, 0, Some(7));
+        }
     }
     // Nothing is offered, so no entry is right.
     let mut side = Offering::new(rt.alloc(), 4)?;
