@@ -5,7 +5,8 @@
 //! of its entries are live, what is placed at its end, which logs are sound. Here stand in `specs/`
 //! `Trees` (what a log and the table of a tree say of each other, and what a tree's calls make of a log),
 //! `Logs` (what an entry places as seen from later on, what is found of a chunk, and where a log is unsound
-//! first) and `Ranges` (what the calls of a board of ranges make of its view).
+//! first), `Behind` (of each entry, where behind it its range is removed and upgraded next) and `Ranges` (what
+//! the calls of a board of ranges make of its view).
 //!
 //! This is the bookkeeping of the interval tree of a DAX inode in Linux `fs/fuse/dax.c`.
 #![tactic(auto)]
