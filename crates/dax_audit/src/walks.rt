@@ -53,6 +53,9 @@ pub enum Row<'a> {
 
 /// A rule, which tells of each line of a transcript whether it is broken there. `ready` is what the
 /// rule's tables have to be.
+///
+/// Rules mark `is_broken` as `inline(always)`, so that LLVM leaves the lines which a rule never looks at out of its
+/// walk.
 pub trait Judge {
     ghost use Rattle.std.specs.Prelude.{Bool};
     ghost use Rattle.transcript_text.specs.declared.transcripts.Transcript.{Transcript};
