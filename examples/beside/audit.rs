@@ -1,4 +1,4 @@
-//! Audits a transcript as plain, unproved Rust would, to measure the proved audit beside it.
+//! Audits a transcript as plain, unproved Rust would, to measure `daxwire audit` beside it.
 //!
 //!     rustc -O -o /tmp/audit examples/beside/audit.rs && examples/beside/big-audit | /tmp/audit
 //!
