@@ -2,7 +2,7 @@ ghost use Rattle.std.specs.Prelude.{◌≡◌, ◌≤◌, ◌++◌, length, IfOk
 ghost use Rattle.plain_file.specs.Limits.{max_part, max_transfer};
 ghost use Rattle.fuse_device.specs.Promises.{world};
 ghost use Rattle.fuse_device.specs.Steps.{device_step};
-ghost use Rattle.window_access.specs.Access.{Loads, Stores};
+ghost use Rattle.window_access.specs.Access.{Loads, LoadsInto, Stores};
 ghost use Rattle.dax_device.specs.Answers.{IsAnswer};
 ghost use Rattle.dax_device.specs.Devices.{first_world};
 
@@ -11,7 +11,7 @@ use page_map::PageMap;
 use plain_file::{Blob, First, List, Memory, PlainFiles};
 use std::alloc::Global;
 use std::marker::Model;
-use window_access::{WindowRefusal, load_window, store_window};
+use window_access::{WindowRefusal, load_window, load_window_into, store_window};
 
 /// A device on its own: a daemon whose files are kept in memory, and its window. It begins without a
 /// file and without a session, 16 files can be made, and nothing is mapped.
@@ -91,6 +91,21 @@ impl Device {
         ensures same { self.new ≡ self.old }
     {
         load_window(alloc, &mut self.files, &self.map, moffset, len)
+    }
+
+    /// Loads at most 1,048,576 bytes from the window, and adds them at the end of `out`, as
+    /// `load_window_into` does. After an error `out` has its old bytes.
+    pub fn load_into(
+        &mut self,
+        moffset: u64,
+        len: u32,
+        out: &mut Vec<u8>,
+    ) -> Result<(), WindowRefusal>
+        requires { len ≤ max_transfer }
+        ensures loads { LoadsInto self.old.files self.old.map moffset len out.old.items result out.new.items }
+        ensures same { self.new ≡ self.old }
+    {
+        load_window_into(&mut self.files, &self.map, moffset, len, out)
     }
 
     /// Stores at most 1,048,576 bytes to the window, as `store_window` does.

@@ -75,7 +75,7 @@ impl Queue {
         sides.deliver(&mut self.chain, &mut self.readable, readable, room)?;
         let room = room_in(&self.chain);
         match daemon.serve_chain(alloc, &self.readable, room, files, map) {
-            Ok(bytes) => Ok(sides.answer(alloc, &self.chain, bytes.as_slice(), room)?),
+            Ok(bytes) => Ok(sides.answer(&self.chain, bytes, room)?),
             Err(Memory) => {
                 sides.give_up(room);
                 Err(WireError::Memory)

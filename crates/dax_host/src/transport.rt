@@ -220,25 +220,21 @@ impl Sides {
         scatter(&mut self.memory, chain, bytes).unwrap()
     }
 
-    // Brings the answer to the driver.
-    pub(crate) fn answer(
-        &mut self,
-        alloc: Global,
-        chain: &Chain,
-        bytes: &[u8],
-        room: u32,
-    ) -> Result<Blob, Memory>
+    // Brings the answer to the driver, which reads it into the buffer that it came in.
+    pub(crate) fn answer(&mut self, chain: &Chain, bytes: Blob, room: u32) -> Result<Blob, Memory>
         requires delivered { IsDelivered self.old room chain.now }
         requires room { room ≤ self.old.driver.part }
-        requires fits { length bytes.now ≤ room }
-        ensures bytes { IfOk result (λ b. b ≡ bytes.now) }
-        ensures queue { self.new ≡
-            after_return (after_answer self.old room bytes.now) (length bytes.now) }
+        requires fits { length bytes ≤ room }
+        ensures bytes { IfOk result (λ b. b ≡ bytes) }
+        ensures queue { self.new ≡ after_return (after_answer self.old room bytes) (length bytes) }
         ensures idle { IsIdle self.new }
     {
-        let len = self.put_answer(chain, bytes, room);
+        let len = self.put_answer(chain, bytes.as_slice(), room);
         self.push(len, room);
-        Blob::copy_of(alloc, self.driver.written(&self.memory, len))
+        let mut read = bytes.into_vec();
+        read.clear();
+        read.extend_from_slice(self.driver.written(&self.memory, len))?;
+        Ok(Blob::from_vec(read))
     }
 }
 

@@ -46,7 +46,7 @@ where
     ensures ours { OnOk result (AreOurs files.new) }
     ensures firsts { OnOk result ((f : ℕ) → first_at files.new f ≡ first_at files.old f) }
 {
-    let mut lines = List::new(alloc);
+    let mut lines = List::from_vec(Vec::with_capacity(alloc, calls.len())?);
     let mut filling = Vec::new(alloc);
     let mut number = 0;
     for call in calls {

@@ -23,6 +23,7 @@ use guest_wire::{Driver, Wire};
 use page_map::PageMap;
 use plain_file::{Entry, First, List, Memory, PlainFiles, Way};
 use std::alloc::Global;
+use std::mem::forget;
 use std::sync::Wait;
 
 /// Plays a script that is carried out by a client over a wire to the whole daemon of the script's files,
@@ -49,11 +50,12 @@ where
     let mut map = PageMap::new(alloc, 0)?;
     let guests = script.guests.as_slice();
     let guests = play_guests(rt, alloc, client, lines, guests, &mut files, &mut map)?;
-    let files = file_parts(alloc, lines, &files)?;
+    let parts = file_parts(alloc, lines, &files)?;
+    forget(files);
     Ok(Transcript {
         version: 1,
         ranges: 0,
-        files,
+        files: parts,
         guests,
     })
 }
@@ -167,7 +169,7 @@ fn entry_lines(alloc: Global, history: &[Entry]) -> Result<List<EntryLine>, Memo
     ensures value { IfOk result (λ es. es ≡ map entry_line history.now) }
     ensures printable { IfOk result (AllByRecursion IsPrintableEntry) }
 {
-    let mut lines = List::new(alloc);
+    let mut lines = List::from_vec(Vec::with_capacity(alloc, history.len())?);
     for entry in history {
         lines.push(entry_line(entry.guest, entry.call, entry.way))?;
     }

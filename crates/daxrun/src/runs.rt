@@ -22,6 +22,7 @@ use plain_file::{Blob, List, Memory};
 use plain_text::{put, put_number};
 use program_io::{ReadError, Sink, Source, Status, Word, read_all, write_all};
 use std::alloc::Global;
+use std::mem::forget;
 use std::sync::Wait;
 use transcript_text::print;
 
@@ -126,6 +127,8 @@ fn answer_to<R: Wait>(rt: &R, alloc: Global, input: &[u8]) -> Result<(Status, Bl
                 return Ok((Status::Refused, text));
             }
             let text = transcribe(rt, alloc, &script)?;
+            // The program ends with this text, so that nobody waits for the memory of each call.
+            forget(script);
             Ok((Status::Ok, text))
         }
         Err(BadScript::Line { line, why }) => {
@@ -193,6 +196,7 @@ fn transcribe<R: Wait>(rt: &R, alloc: Global, script: &Script) -> Result<Blob, M
 {
     let transcript = play_script(rt, alloc, script)?;
     let text = print(alloc, &transcript)?;
+    forget(transcript);
     Ok(text)
 }
 

@@ -37,27 +37,20 @@ impl Serve {
         Ok(())
     }
 
-    // Adds the answer to a load.
+    // Adds the answer to a load. Its bytes come to their place at once.
     #[tactic(auto, unfolding(crate::specs::Serve::load_step, crate::specs::Serve::refusal_number))]
-    fn put_load(
-        &mut self,
-        alloc: Global,
-        moffset: u64,
-        len: u32,
-        out: &mut Vec<u8>,
-    ) -> Result<(), Memory>
+    fn put_load(&mut self, moffset: u64, len: u32, out: &mut Vec<u8>) -> Result<(), Memory>
         requires { len ≤ max_transfer }
         ensures { OnOk result (Makes (load_step self.old.device moffset len) out.old.items self.new.device out.new.items) }
     {
-        match self.device.load(alloc, moffset, len) {
-            Ok(bytes) => {
-                out.extend_from_slice(&[2, 0])?;
-                out.extend_from_slice(&len.to_le_bytes())?;
-                out.extend_from_slice(bytes.as_slice())?;
-                Ok(())
-            }
+        let at = out.len();
+        out.extend_from_slice(&[2, 0])?;
+        out.extend_from_slice(&len.to_le_bytes())?;
+        match self.device.load_into(moffset, len, out) {
+            Ok(()) => Ok(()),
             Err(WindowRefusal::Memory) => Err(Memory),
             Err(refusal) => {
+                out.truncate(at);
                 out.extend_from_slice(&[2, number_of(refusal), 0, 0, 0, 0])?;
                 Ok(())
             }
@@ -107,7 +100,7 @@ impl Serve {
                 let readable = bytes.split_at(5 + 4 * parts as usize).1;
                 self.put_chain(alloc, readable, room as u32, out)
             }
-            Lead::Load { moffset, len } => self.put_load(alloc, moffset, len, out),
+            Lead::Load { moffset, len } => self.put_load(moffset, len, out),
             Lead::Store { moffset, .. } => self.put_store(
                 alloc,
                 moffset,

@@ -189,7 +189,8 @@ pub fn encode_request(alloc: Global, message: &Message) -> Result<Blob, Memory>
     ensures spelled { IfOk result (λ b. Spells message.now b) }
     ensures again { IfOk result (λ b. message_of b ≡ Ok message.now) }
 {
-    let mut out = Vec::new(alloc);
+    let len = InHeader::SIZE + body_len(&message.body);
+    let mut out = Vec::with_capacity(alloc, len)?;
     put_request(&mut out, message)?;
     numbers_fit(message);
     Ok(Blob::from_vec(out))
@@ -212,8 +213,7 @@ pub fn encode_write(
     ensures again { IfOk result (λ b. message_of b ≡ Ok (write_message head.now write.now bytes.now)) }
 {
     let len = InHeader::SIZE + WriteIn::SIZE + bytes.len();
-    let mut out = Vec::new(alloc);
-    out.reserve(len)?;
+    let mut out = Vec::with_capacity(alloc, len)?;
     put(
         &mut out,
         &header_with(len as u32, head, Opcode::Write).put(),

@@ -38,9 +38,9 @@ returns-clause-legal g c =
     let v = c.in_ok-files.files in
     let w = c.play_guests.new.files in
     let board : v ≡ new_board 0 (firsts_of s.files) = c.in_ok-files.ensures ∙ ap (λ (xs : List FileLine). new_board 0 (firsts_of xs)) c.as_slice-lines.ensures in
-    let files = c.in_ok-files-2.ensures.value ∙ ap (parts_from (history_at w) 0) c.as_slice-lines.ensures in
+    let files = c.in_ok-parts.ensures.value ∙ ap (parts_from (history_at w) 0) c.as_slice-lines.ensures in
     let gs : c.as_slice-guests.result.now ≡ s.guests = c.as_slice-guests.ensures in
-    played_legal s (record { version = 1; ranges = 0; files = c.in_ok-files-2.files; guests = c.in_ok-guests.guests }) v w c.requires.playable refl board files
+    played_legal s (record { version = 1; ranges = 0; files = c.in_ok-parts.parts; guests = c.in_ok-guests.guests }) v w c.requires.playable refl board files
     (c.in_ok-guests.ensures.count ∙ ap length gs)
     (λ n cs part at. c.in_ok-guests.ensures.parts n cs part (ap (λ (xs : List (List Call)). slice_get xs n) gs ∙ at))
     (λ f p e at. subst (λ (xs : List (List Call)). e.guest < length xs) gs (c.in_ok-guests.ensures.known f p e at))
