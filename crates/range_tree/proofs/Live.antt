@@ -1,9 +1,9 @@
 -- Live placements of a log.
-use Rattle.std.proofs.Common.{◌≡◌, ◌∙◌, ap, sym, refl, ℕ, ◌+◌, ◌<◌, ◌≤◌, ◌&&◌, ◌||◌, not, Bool, true, false, nat_lt, nat_le, ltb, List, [], ◌∷◌, ◌++◌, length, take, drop, slice_get, Option, Some, None, get_or, inl, inr, arith, length-append}
-use Rattle.std.proofs.lemmas.Bool.{and_parts, cases_Bool, ltb-true, leb-true, le-leb, lt-ltb, le-ltb, lt-leb}
+use Rattle.std.proofs.Common.{◌≡◌, refl, ℕ, ◌+◌, ◌<◌, ◌≤◌, ◌&&◌, ◌||◌, not, Bool, true, false, ltb, List, length, take, drop, slice_get, Some, get_or, arith}
+use Rattle.std.proofs.lemmas.Bool.{and_parts, ltb-true, leb-true, le-leb, lt-ltb, le-ltb, lt-leb}
 use Rattle.std.proofs.lemmas.Option.{slice_get-get_or}
 use Rattle.page_map.specs.declared.ranges.LogEntry.{LogEntry}
-use Rattle.page_map.specs.Logs.{live, stays, is_written, places, writable, between}
+use Rattle.page_map.specs.Logs.{live, places, writable}
 use Rattle.range_tree.specs.Logs.{is_live, lasts}
 
 -- what is live at a length is so below it, and the log is as long

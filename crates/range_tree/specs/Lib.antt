@@ -1,3 +1,4 @@
 pub mod Logs
 pub mod Trees
 pub mod Ranges
+pub mod Plain

@@ -5,13 +5,16 @@
 //! of its entries are live, what is placed at its end, which logs are sound. Here stand in `specs/`
 //! `Trees` (what a log and the table of a tree say of each other, and what a tree's calls make of a log),
 //! `Logs` (what an entry places as seen from later on, what is found of a chunk, and where a log is unsound
-//! first) and `Ranges` (what the calls of a board of ranges make of its view).
+//! first), `Ranges` (what the calls of a board of ranges make of its view) and `Plain` (the board of one
+//! guest).
 //!
 //! This is the bookkeeping of the interval tree of a DAX inode in Linux `fs/fuse/dax.c`.
 #![tactic(auto)]
 
 mod boards;
 mod liveness;
+mod plain;
+mod plain_turns;
 mod slots;
 #[cfg(test)]
 mod tests;
@@ -21,5 +24,6 @@ mod unsound;
 pub use boards::RangeBoard;
 pub use liveness::is_live;
 pub use page_map::{LogEntry, Look, Placed, RangeWord, Target};
+pub use plain::PlainRanges;
 pub use trees::Tree;
 pub use unsound::first_unsound;

@@ -1,7 +1,4 @@
-use Rattle.std.proofs.Common.{◌∙◌, sym, rules, ◌≡◌, ℕ, ◌+◌, ◌-◌, ◌*◌, ◌<◌, ◌≤◌, length, ◌/◌, ◌%◌, Bool, true, false, nat_eq, nat_lt, List, [], ◌∷◌, ◌++◌, slice_index_or, slice_set, bit_and, bit_or, Fits, w8, w32, w64, Bor, MutBor}
-use Rattle.std.specs.List.{list_any}
-use Rattle.page_map.specs.Logs.{removes, upgrades}
-use Rattle.range_tree.specs.Logs.{lasts, is_live}
+use Rattle.std.proofs.Common.{◌∙◌, sym}
 use Rattle.range_tree.proofs.Live.{live_lasts}
 use Rattle.range_tree.proofs.liveness.is_live.Goals as goal
 
