@@ -14,6 +14,8 @@
 mod boards;
 mod liveness;
 mod plain;
+#[cfg(test)]
+mod plain_tests;
 mod plain_turns;
 mod slots;
 #[cfg(test)]
