@@ -1,13 +1,15 @@
 -- Slots that agree with a log, and the log with one entry more.
-use Rattle.std.proofs.Common.{◌≡◌, ◌∙◌, ap, sym, refl, subst, ℕ, ◌<◌, ◌&&◌, Bool, true, false, not, nat_lt, is_none, is_some, List, [], ◌∷◌, ◌++◌, length, map, filter, Option, Some, None, option_map, IsSome, inl, inr, arith}
-use Rattle.std.specs.List.{find}
+use Rattle.std.proofs.Common.{◌≡◌, ◌∙◌, ap, sym, refl, subst, ℕ, ◌<◌, ◌&&◌, ◌||◌, Bool, true, false, not, nat_lt, is_none, is_some, List, [], ◌∷◌, ◌++◌, length, map, filter, Option, Some, None, option_map, IsSome, inl, inr, arith}
+use Rattle.std.specs.List.{find, list_any}
 use Rattle.std.proofs.lemmas.Bool.{cases_Bool, lt-ltb}
 use Rattle.page_map.specs.declared.pages.Mode.{Mode}
 use Rattle.page_map.specs.declared.ranges.LogEntry.{LogEntry}
 use Rattle.page_map.specs.declared.ranges.LogEntry.TheVariants as entries
+use Rattle.page_map.specs.declared.pages.Span.{Span}
+use Rattle.page_map.specs.Board.{chunk_in, is_chunk_of}
 use Rattle.page_map.specs.Logs.{Slot, is_of, is_in, is_writable, upgraded, next_slots, slots_from, slots_of, may_follow, may_upgrade, sound_from, sound, placed_at, slot_in, placed_of}
 use Rattle.range_tree.specs.declared.slots.Spot.{Spot}
-use Rattle.range_tree.specs.Trees.{slot_of, slots_in, raised, is_elsewhere, Agrees, KeepsSound, max_ranges}
+use Rattle.range_tree.specs.Trees.{slot_of, slots_in, is_span_of, raised, is_elsewhere, Agrees, KeepsSound, max_ranges}
 use Rattle.range_tree.proofs.Finds.{find-holds}
 use Rattle.range_tree.proofs.Growing.{slots_of-append, sound-append}
 use Rattle.range_tree.proofs.Apart.{IsApart, apart_of}
@@ -23,6 +25,14 @@ slots_left range (s ∷ spots) = elim (cases_Bool (is_elsewhere range s)) [
   | inl k ↦ rw k (ap (λ (xs : List Slot). slot_of s ∷ xs) (slots_left range spots))
   | inr k ↦ rw k (slots_left range spots)
 ]
+
+-- a span is that of a spot exactly where it is that of its slot
+any_slot : (span : Span) (file : ℕ) (spots : List Spot) → list_any (is_span_of span file) spots ≡ list_any (is_chunk_of span) (map (chunk_in file) (slots_in spots))
+any_slot span file [] = refl
+any_slot span file (s ∷ spots) = ap (λ b. is_span_of span file s || b) (any_slot span file spots)
+
+pub any_span : (span : Span) (file : ℕ) (spots : List Spot) (log : List LogEntry) → Agrees (slots_in spots) log → list_any (is_span_of span file) spots ≡ list_any (is_chunk_of span) (map (chunk_in file) (slots_of log))
+any_span span file spots log a = any_slot span file spots ∙ ap (λ (xs : List Slot). list_any (is_chunk_of span) (map (chunk_in file) xs)) a.placed
 
 pub agrees_new : Agrees [] []
 unfolding slots_of slots_from sound sound_from

@@ -15,19 +15,19 @@ pub record IsApart (slots : List Slot) (s : Slot) : Type 0 where
 abbrev pub Apart : List Slot → Type 0
 Apart slots = AllByRecursion (IsApart slots) slots
 
-all_append : (P : Slot → Type 0) (xs : List Slot) (y : Slot) → AllByRecursion P xs → P y → AllByRecursion P (xs ++ y ∷ [])
+pub all_append : (P : Slot → Type 0) (xs : List Slot) (y : Slot) → AllByRecursion P xs → P y → AllByRecursion P (xs ++ y ∷ [])
 all_append P [] y all last = (last, tt)
 all_append P (x ∷ xs) y all last = (all.0, all_append P xs y all.1 last)
 
-all_mono : (P Q : Slot → Type 0) → ((s : Slot) → P s → Q s) → (xs : List Slot) → AllByRecursion P xs → AllByRecursion Q xs
+pub all_mono : (P Q : Slot → Type 0) → ((s : Slot) → P s → Q s) → (xs : List Slot) → AllByRecursion P xs → AllByRecursion Q xs
 all_mono P Q f [] all = tt
 all_mono P Q f (x ∷ xs) all = (f x all.0, all_mono P Q f xs all.1)
 
-all_map : (P Q : Slot → Type 0) (f : Slot → Slot) → ((s : Slot) → P s → Q (f s)) → (xs : List Slot) → AllByRecursion P xs → AllByRecursion Q (map f xs)
+pub all_map : (P Q : Slot → Type 0) (f : Slot → Slot) → ((s : Slot) → P s → Q (f s)) → (xs : List Slot) → AllByRecursion P xs → AllByRecursion Q (map f xs)
 all_map P Q f g [] all = tt
 all_map P Q f g (x ∷ xs) all = (g x all.0, all_map P Q f g xs all.1)
 
-all_filter : (P Q : Slot → Type 0) (keep : Slot → Bool) → ((s : Slot) → keep s ≡ true → P s → Q s) → (xs : List Slot) → AllByRecursion P xs → AllByRecursion Q (filter keep xs)
+pub all_filter : (P Q : Slot → Type 0) (keep : Slot → Bool) → ((s : Slot) → keep s ≡ true → P s → Q s) → (xs : List Slot) → AllByRecursion P xs → AllByRecursion Q (filter keep xs)
 all_filter P Q keep g [] all = tt
 all_filter P Q keep g (x ∷ xs) all = elim (cases_Bool (keep x)) [
   | inl k ↦ rw k (g x k all.0, all_filter P Q keep g xs all.1)
@@ -64,7 +64,7 @@ apart_removed range slots all = all_filter (IsApart slots) (IsApart (filter (λ 
       range = find-filter (is_in x.range) (λ s. not (is_in range s)) slots x a.range k;
     }) slots all
 
-none_is : (o : Option Slot) → is_none o ≡ true → o ≡ None
+pub none_is : (o : Option Slot) → is_none o ≡ true → o ≡ None
 none_is None e = refl
 none_is (Some s) e = absurd (cc)
 
@@ -75,7 +75,7 @@ pub record MayPlace (ranges : ℕ) (slots : List Slot) (c r : ℕ) : Type 0 wher
   pub free_chunk : is_none (find (is_of c) slots) ≡ true
   pub free_range : is_none (find (is_in r) slots) ≡ true
 
-four : (a b c d : Bool) → (a && b && c && d) ≡ true → (c ≡ true) × (d ≡ true)
+pub four : (a b c d : Bool) → (a && b && c && d) ≡ true → (c ≡ true) × (d ≡ true)
 four true true true true e = (refl, refl)
 four true true true false e = absurd (cc)
 four true true false d e = absurd (cc)

@@ -5,3 +5,11 @@ pub mod Agreeing
 pub mod Rooms
 pub mod Live
 pub mod Behind
+pub mod Entries
+pub mod OneGuest
+pub mod Seeing
+pub mod Pages
+pub mod Whole
+pub mod Moves
+pub mod Lives
+pub mod Setting

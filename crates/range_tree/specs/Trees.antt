@@ -3,9 +3,11 @@ use Rattle.std.specs.Prelude.{◌≡◌, ℕ, ◌==◌, Bool, false, not, List, 
 use Rattle.std.specs.List.{find, sum_by}
 use Rattle.page_map.specs.declared.pages.Mode.{Mode}
 use Rattle.page_map.specs.declared.pages.Mode.TheVariants as modes
+use Rattle.page_map.specs.declared.pages.Span.{Span}
 use Rattle.page_map.specs.declared.ranges.LogEntry.{LogEntry}
 use Rattle.page_map.specs.declared.ranges.LogEntry.TheVariants as entries
 use Rattle.page_map.specs.declared.ranges.Placed.{Placed}
+use Rattle.page_map.specs.Board.{chunk_in, is_chunk_of}
 use Rattle.page_map.specs.Logs.{Slot, slots_of, is_of, is_writable, sound}
 use Rattle.range_tree.specs.declared.slots.Spot.{Spot}
 
@@ -30,6 +32,10 @@ raised range s = record s { mode = if s.range == range then modes.W else s.mode 
 
 abbrev pub is_elsewhere : ℕ → Spot → Bool
 is_elsewhere range s = not (s.range == range)
+
+-- a span is the whole of a spot's chunk, of this file, in its range
+abbrev pub is_span_of : Span → ℕ → Spot → Bool
+is_span_of span file s = is_chunk_of span (chunk_in file (slot_of s))
 
 -- how many entries more a slot may need: its removal, and where it is placed for reading its upgrade
 abbrev pub need : Spot → ℕ

@@ -5,8 +5,8 @@
 //! of its entries are live, what is placed at its end, which logs are sound. Here stand in `specs/`
 //! `Trees` (what a log and the table of a tree say of each other, and what a tree's calls make of a log),
 //! `Logs` (what an entry places as seen from later on, what is found of a chunk, and where a log is unsound
-//! first), `Behind` (of each entry, where behind it its range is removed and upgraded next) and `Ranges` (what
-//! the calls of a board of ranges make of its view).
+//! first), `Behind` (of each entry, where behind it its range is removed and upgraded next), `Ranges` (what
+//! the calls of a board of ranges make of its view) and `Plain` (the board of one guest).
 //!
 //! This is the bookkeeping of the interval tree of a DAX inode in Linux `fs/fuse/dax.c`.
 #![tactic(auto)]
@@ -14,6 +14,10 @@
 mod boards;
 mod liveness;
 mod lives;
+mod plain;
+#[cfg(test)]
+mod plain_tests;
+mod plain_turns;
 mod slots;
 #[cfg(test)]
 mod tests;
@@ -24,5 +28,6 @@ pub use boards::RangeBoard;
 pub use liveness::is_live;
 pub use lives::Lives;
 pub use page_map::{LogEntry, Look, Placed, RangeWord, Target};
+pub use plain::PlainRanges;
 pub use trees::Tree;
 pub use unsound::first_unsound;

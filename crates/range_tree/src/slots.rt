@@ -1,9 +1,9 @@
 ghost use Rattle.std.specs.Prelude.{◌≡◌, ◌∷◌, ◌++◌, [], length, map, filter, not, option_map, Some, IsSome};
 ghost use Rattle.std.specs.List.{find, list_any};
 ghost use Rattle.page_map.specs.Logs.{is_of, is_in, is_writable, upgraded};
-ghost use Rattle.range_tree.specs.Trees.{slot_of, slots_in, raised, is_elsewhere};
+ghost use Rattle.range_tree.specs.Trees.{slot_of, slots_in, is_span_of, raised, is_elsewhere};
 
-use page_map::Mode;
+use page_map::{Mode, RANGE_SIZE, Span};
 use plain_file::Memory;
 
 // A chunk in its range, with the place of its `Place` in the log.
@@ -55,6 +55,21 @@ pub(crate) fn in_range(spots: &[Spot], range: u32) -> Option<Spot>
         }
     }
     None
+}
+
+// Whether a span is the whole of a spot's chunk, of this file, in its range.
+fn is_span_of(span: &Span, file: u32, spot: &Spot) -> bool
+    ensures { result ≡ is_span_of span.now file spot.now }
+{
+    let range = span.moffset == spot.range as u64 * RANGE_SIZE && span.len == RANGE_SIZE;
+    range && file as u64 + 2 == span.node && spot.chunk as u64 * RANGE_SIZE == span.foffset
+}
+
+// Whether a span is the whole of a placed chunk of this file.
+pub(crate) fn has_span(spots: &[Spot], file: u32, span: &Span) -> bool
+    ensures { result ≡ list_any (is_span_of span.now file) spots.now }
+{
+    spots.iter().any(|spot| is_span_of(span, file, spot))
 }
 
 // The spot after an upgrade of a range.

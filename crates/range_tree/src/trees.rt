@@ -1,10 +1,12 @@
-ghost use Rattle.std.specs.Prelude.{◌≡◌, ◌<◌, ◌≤◌, ◌+◌, ℕ, vec_len, vec_capacity, [], ◌∷◌, ◌++◌, None, length, IfOk, IfSome, IsSome, is_some, OnOk, OnErr, IsTrue};
-ghost use Rattle.page_map.specs.Logs.{placed_at, slot_in, sound};
+ghost use Rattle.std.specs.Prelude.{◌≡◌, ◌<◌, ◌≤◌, ◌+◌, ℕ, vec_len, vec_capacity, [], ◌∷◌, ◌++◌, None, length, map, IfOk, IfSome, IsSome, is_some, OnOk, OnErr, IsTrue};
+ghost use Rattle.std.specs.List.{list_any};
+ghost use Rattle.page_map.specs.Board.{chunk_in, is_chunk_of};
+ghost use Rattle.page_map.specs.Logs.{placed_at, slot_in, slots_of, sound};
 ghost use Rattle.page_map.specs.Window.{max_chunks};
 ghost use Rattle.range_tree.specs.Trees.{KeepsSound, IsReading, max_ranges, place_entry, upgrade_entry, remove_entry};
 
-use crate::slots::{Spot, in_range, of_chunk, remove, spot_of, upgrade};
-use page_map::{LogEntry, Mode, Placed};
+use crate::slots::{Spot, has_span, in_range, of_chunk, remove, spot_of, upgrade};
+use page_map::{LogEntry, Mode, Placed, Span};
 use plain_file::Memory;
 use std::alloc::Global;
 use std::marker::Model;
@@ -74,6 +76,15 @@ impl Tree {
         ensures { result ≡ is_some (slot_in self.now range) }
     {
         in_range(&self.spots, range).is_some()
+    }
+
+    /// Whether a span of the window is the whole of a placed chunk, in its range, where the tree is that of
+    /// this file.
+    #[tactic(auto, using(crate::proofs::Agreeing::any_span))]
+    pub fn has_span(&self, file: u32, span: &Span) -> bool
+        ensures { result ≡ list_any (is_chunk_of span.now) (map (chunk_in file) (slots_of self.now)) }
+    {
+        has_span(&self.spots, file, span)
     }
 
     /// Places a chunk in a range, neither of which is placed, and answers the place of its entry in the
