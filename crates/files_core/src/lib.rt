@@ -1,0 +1,9 @@
+//! The files' half of the core: turns, histories, sizes, leases, bars and noted sizes, as a pure machine.
+#![tactic(auto)]
+
+mod core_file;
+mod files;
+mod rows;
+
+pub use files::Files;
+pub use rows::Note;
