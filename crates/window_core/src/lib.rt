@@ -1,0 +1,6 @@
+//! The window's half of the core: ranges, what they are mapped to, trees with their logs, and pins, as a pure machine.
+#![tactic(auto)]
+
+mod states;
+
+pub use states::{Pin, RangeState};
