@@ -1,3 +1,4 @@
 pub mod Places
 pub mod Living
 pub mod Placing
+pub mod Keeps
