@@ -2,3 +2,4 @@ pub mod Places
 pub mod Living
 pub mod Placing
 pub mod Keeps
+pub mod Deeds
