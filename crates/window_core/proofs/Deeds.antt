@@ -23,7 +23,7 @@ use Rattle.window_core.proofs.Keeps.{free_mapped, free_moving, moving_mapped, sa
 
 -- ---- counts of pins
 
-one_on : (r : ℕ) (x : Pin) (xs : List Pin) → pins_on r (x ∷ xs) ≡ pins_on r xs + cond (on_range r x) 1 0
+pub one_on : (r : ℕ) (x : Pin) (xs : List Pin) → pins_on r (x ∷ xs) ≡ pins_on r xs + cond (on_range r x) 1 0
 one_on r x xs = let y = sum_by-cons (λ (y : Pin). cond (on_range r y) 1 0) x xs in omega arith
 
 no_pin : (r : ℕ) (ps : List Pin) → pins_on r ps ≡ 0 → (k : ℕ) (p : Pin) → slice_get ps k ≡ Some p → p.range ≢ r

@@ -3,3 +3,4 @@ pub mod Living
 pub mod Placing
 pub mod Keeps
 pub mod Deeds
+pub mod Reading

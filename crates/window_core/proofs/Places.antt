@@ -1,5 +1,5 @@
 -- Lists read at a place.
-use Rattle.std.proofs.Common.{◌≡◌, ◌≢◌, ◌⊎◌, ℕ, zero, suc, ◌<◌, ◌≤◌, List, [], ◌∷◌, ◌++◌, length, set, get_or, slice_get, Some, refl, ap, ◌∙◌, ⊎_elim, inl, inr, arith, get_or-set_same, get_or-set_other}
+use Rattle.std.proofs.Common.{◌≡◌, ◌≢◌, ◌⊎◌, ℕ, zero, suc, ◌<◌, ◌≤◌, List, [], ◌∷◌, ◌++◌, length, set, get_or, slice_get, Some, refl, sym, ap, ◌∙◌, ⊎_elim, inl, inr, arith, get_or-set_same, get_or-set_other}
 use mathlib.Core.Logic.{dite}
 use native.Mathlib.Decide.{ℕ_discrete}
 
@@ -14,6 +14,12 @@ module _ {A : Type 0} where
   within [] i d ne = absurd (ne refl)
   within (x ∷ xs) zero d ne = omega arith
   within (x ∷ xs) (suc i) d ne = let h = within xs i d ne in omega arith
+
+  -- what is read where there is something
+  pub at_default : (l : List A) (i : ℕ) (x d : A) → i < length l → x ≡ get_or l i x → get_or l i d ≡ x
+  at_default [] i x d h is = absurd (omega arith)
+  at_default (y ∷ l) zero x d h is = sym is
+  at_default (y ∷ l) (suc i) x d h is = at_default l i x d (omega arith) is
 
   -- what is read after a write
   pub at_put : (l : List A) (i j : ℕ) (a d : A) → i < length l → ((j ≡ i) × (get_or (set l i a) j d ≡ a)) ⊎ ((j ≢ i) × (get_or (set l i a) j d ≡ get_or l j d))

@@ -57,6 +57,13 @@ pub record GoodWindow (guests : ℕ) (h : Window) : Type 0 where
   pub one_moved : (r r' g : ℕ) → state h r ≡ ranges.Moving g → state h r' ≡ ranges.Moving g → r ≡ r'
   pub one_tree : (f f' g : ℕ) → HasTree h g f → HasTree h g f' → f ≡ f'
 
--- the guest is one of those of this window, which is good
+-- how many guests there are at most
+abbrev pub max_guests : ℕ
+max_guests = 34
+
+-- the window is good, and the guest one of its own
+abbrev pub IsGood : Window → Type 0
+IsGood h = (guests : ℕ) × (guests ≤ max_guests) × GoodWindow guests h
+
 abbrev pub IsGuest : ℕ → Window → Type 0
-IsGuest g h = (guests : ℕ) × (g < guests) × GoodWindow guests h
+IsGuest g h = (guests : ℕ) × (g < guests) × (guests ≤ max_guests) × GoodWindow guests h

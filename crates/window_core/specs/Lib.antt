@@ -1,2 +1,3 @@
 pub mod Window
 pub mod Good
+pub mod Machine

@@ -1,6 +1,6 @@
 -- The window's half of the core: its state, what a guest may do to it, and what that makes of it.
 use Rattle.std.specs.Prelude.{◌≡◌, ◌≢◌, ◌⊎◌, ℕ, ◌+◌, ◌<◌, ◌==◌, List, [], ◌∷◌, ◌++◌, length, slice_set, slice_index_or, Bool, if◌then◌else◌, Option, Some, None, MatchBool, ⊤}
-use Rattle.std.specs.List.{sum_by, count_by}
+use Rattle.std.specs.List.{sum_by, count_by, remove}
 use Rattle.plain_file.specs.declared.operations.Through.{Through}
 use Rattle.page_map.specs.declared.pages.Mode.{Mode}
 use Rattle.page_map.specs.declared.pages.Mode.TheVariants as modes
@@ -52,6 +52,10 @@ seen_by s g = slice_index_or s.seen g 0
 abbrev pub placed : Window → ℕ → ℕ → Option Placed
 placed h f c = placed_at (side h f).log c
 
+-- the chunk is placed in that range
+abbrev pub IsPlaced : List LogEntry → ℕ → ℕ → Type 0
+IsPlaced log c r = (p : Placed) × (placed_at log c ≡ Some p) × (p.range ≡ r)
+
 abbrev pub on_range : ℕ → Pin → Bool
 on_range r p = p.range == r
 
@@ -66,6 +70,10 @@ pin_count h r = sum_by (pins_on r) h.pins
 abbrev pub unpinned : ℕ → List Pin → List Pin
 unpinned r [] = []
 unpinned r (p ∷ ps) = if on_range r p then ps else (p ∷ unpinned r ps)
+
+-- the first pin on the range stands at this place
+abbrev pub IsOldest : ℕ → List Pin → ℕ → Type 0
+IsOldest r ps k = (k < length ps) × (0 < pins_on r ps) × (unpinned r ps ≡ remove ps k)
 
 -- ---- what a guest does
 
@@ -195,3 +203,12 @@ IsUnpin r d = d ≡ unpin r
 
 abbrev pub IsUpgrade : ℕ → Deed → Type 0
 IsUpgrade r d = (f : ℕ) × (c : ℕ) × (p : Placed) × (p.range ≡ r) × (d ≡ upgrade f c p)
+
+-- the range is mapped to that chunk of the file
+abbrev pub IsMapped : Window → ℕ → ℕ → ℕ → Type 0
+IsMapped h r f c = (m : Mode) × (state h r ≡ ranges.Mapped f c m)
+
+-- a take of such a range was done, or isn't allowed and nothing has changed
+abbrev pub DidTake : Bool → Window → ℕ → ℕ → ℕ → ℕ → Window → Type 0
+DidTake result h g r f c new = MatchBool result (((m : Mode) → state h r ≡ ranges.Mapped f c m → Allowed h g (take_mapped r f c m)) × (new ≡ with_entry g f r (ranges.Moving g) (remove_entry r) h))
+    (((m : Mode) → Allowed h g (take_mapped r f c m) → ⊥) × (new ≡ h))

@@ -1,6 +1,10 @@
 //! The window's half of the core: ranges, what they are mapped to, trees with their logs, and pins, as a pure machine.
 #![tactic(auto)]
 
+mod pin_row;
+mod side;
 mod states;
+mod window;
 
 pub use states::{Pin, RangeState};
+pub use window::CoreWindow;
