@@ -1,21 +1,18 @@
 -- Each deed keeps the window good.
-use Rattle.std.proofs.Common.{◌≡◌, ◌≢◌, ◌⊎◌, ℕ, zero, suc, ◌+◌, ◌<◌, ◌≤◌, ◌==◌, List, [], ◌∷◌, ◌++◌, length, set, get_or, slice_get, Bool, true, false, cond, Option, Some, None, refl, sym, ap, ◌∙◌, subst, ⊎_elim, inl, inr, arith, length-append, length-set, eq-eqb, ne_eqb}
+use Rattle.std.proofs.Common.{◌≡◌, ◌≢◌, ◌⊎◌, ℕ, zero, suc, ◌+◌, ◌<◌, ◌≤◌, List, [], ◌∷◌, ◌++◌, length, set, get_or, slice_get, Bool, true, false, cond, Option, Some, None, refl, sym, ap, ◌∙◌, subst, ⊎_elim, inl, inr, arith, length-append, length-set, eq-eqb, ne_eqb}
 use mathlib.Core.Logic.{dite}
 use native.Mathlib.Decide.{ℕ_discrete}
 use Rattle.std.proofs.lemmas.List.Sums.{sum_by-set, sum_by-cons}
 use Rattle.page_map.specs.declared.pages.Mode.{Mode}
 use Rattle.page_map.specs.declared.pages.Mode.TheVariants as modes
-use Rattle.page_map.specs.declared.ranges.LogEntry.{LogEntry}
-use Rattle.page_map.specs.declared.ranges.LogEntry.TheVariants as entries
 use Rattle.page_map.specs.declared.ranges.Placed.{Placed}
 use Rattle.page_map.specs.declared.ranges.Target.{Target}
-use Rattle.page_map.specs.Logs.{live, sound, removes, is_writable, placed_at}
+use Rattle.page_map.specs.Logs.{live, sound, removes, placed_at}
 use Rattle.range_tree.specs.Trees.{place_entry, upgrade_entry, remove_entry}
-use Rattle.window_core.specs.declared.states.RangeState.{RangeState}
 use Rattle.window_core.specs.declared.states.RangeState.TheVariants as ranges
 use Rattle.window_core.specs.declared.states.Pin.{Pin}
-use Rattle.window_core.specs.Window.{Side, Window, state, target, side, pins, seen_by, placed, on_range, pins_on, pin_count, unpinned, Deed, enter, leave, look, take_free, take_mapped, set_map, settle_mapped, settle_free, pin, unpin, upgrade, IsTarget, InTree, HasTree, target_of, new_pin, Allowed, after}
-use Rattle.window_core.specs.Good.{AtMost, PinOk, SideOk, GoodWindow}
+use Rattle.window_core.specs.Window.{Window, state, side, pins, seen_by, placed, on_range, pins_on, pin_count, unpinned, Deed, enter, leave, look, take_free, take_mapped, set_map, settle_mapped, settle_free, pin, unpin, upgrade, IsTarget, InTree, HasTree, target_of, new_pin, Allowed, after}
+use Rattle.window_core.specs.Good.{AtMost, PinOk, GoodWindow}
 use Rattle.window_core.proofs.Places.{within, at_put, at_end}
 use Rattle.window_core.proofs.Living.{lasts_live}
 use Rattle.window_core.proofs.Placing.{some_same, none_some, slot_of_chunk, living_at, placed_new, placed_else, raised_here, raised_else, left_here, left_else, sound_left, sound_raised, range_free, sound_placed}

@@ -1,21 +1,20 @@
 -- What a change of one part of the window leaves good.
-use Rattle.std.proofs.Common.{◌≡◌, ◌≢◌, ◌⊎◌, ℕ, ◌+◌, ◌<◌, ◌≤◌, List, [], ◌∷◌, ◌++◌, length, set, get_or, slice_get, Bool, true, false, Option, Some, None, refl, sym, ap, ◌∙◌, subst, ⊎_elim, inl, inr, arith, length-append, length-set, get_or-set_same, get_or-set_other}
+use Rattle.std.proofs.Common.{◌≡◌, ◌≢◌, ◌⊎◌, ℕ, ◌+◌, ◌<◌, ◌≤◌, List, [], ◌∷◌, ◌++◌, length, set, get_or, slice_get, true, false, Option, Some, None, refl, sym, ap, ◌∙◌, subst, ⊎_elim, inl, inr, arith, length-append, length-set, get_or-set_same, get_or-set_other}
 use mathlib.Core.Logic.{dite}
 use native.Mathlib.Decide.{ℕ_discrete}
 use Rattle.page_map.specs.declared.pages.Mode.{Mode}
-use Rattle.page_map.specs.declared.pages.Mode.TheVariants as modes
 use Rattle.page_map.specs.declared.ranges.LogEntry.{LogEntry}
 use Rattle.page_map.specs.declared.ranges.Placed.{Placed}
 use Rattle.page_map.specs.declared.ranges.Target.{Target}
 use Rattle.page_map.specs.Logs.{live, sound, removes, placed_at}
-use Rattle.range_tree.specs.Trees.{place_entry, max_ranges}
+use Rattle.range_tree.specs.Trees.{place_entry}
 use Rattle.window_core.specs.declared.states.RangeState.{RangeState}
 use Rattle.window_core.specs.declared.states.RangeState.TheVariants as ranges
 use Rattle.window_core.specs.declared.states.Pin.{Pin}
 use Rattle.window_core.specs.Window.{Side, Window, no_side, state, target, side, pins, seen_by, placed, IsTarget, HasTree, target_of, grown, with_state, with_side, with_pins, with_entry}
 use Rattle.window_core.specs.Good.{AtMost, MapsTo, PinOk, SideOk, GoodWindow}
 use Rattle.window_core.proofs.Places.{within, at_put, at_longer}
-use Rattle.window_core.proofs.Living.{Lasts, lasts_live, live_lasts, lasts_stays, lasts_on}
+use Rattle.window_core.proofs.Living.{lasts_live, live_lasts, lasts_stays, lasts_on}
 use Rattle.window_core.proofs.Placing.{some_same, none_some}
 
 -- ---- states

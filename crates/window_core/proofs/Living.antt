@@ -1,15 +1,15 @@
 -- What is live in a log that grows, and that what is placed at its end is live there.
-use Rattle.std.proofs.Common.{◌≡◌, ◌≢◌, ◌∙◌, ap, sym, refl, subst, ℕ, zero, suc, ◌+◌, ◌<◌, ◌≤◌, ◌==◌, ◌&&◌, ◌||◌, not, Bool, true, false, nat_lt, nat_le, eqb, cond, List, [], ◌∷◌, ◌++◌, length, take, drop, map, filter, slice_get, Option, Some, None, inl, inr, arith, length-append, ne_eqb, eq-eqb, append_assoc}
-use Rattle.std.specs.List.{list_any, find, AllByRecursion}
-use Rattle.std.proofs.lemmas.Bool.{and_parts, ltb-true, leb-true, lt-ltb, le-leb, eqb-true}
+use Rattle.std.proofs.Common.{◌≡◌, ◌∙◌, ap, sym, refl, subst, ℕ, zero, suc, ◌+◌, ◌<◌, ◌≤◌, ◌==◌, ◌&&◌, ◌||◌, not, Bool, true, false, nat_lt, nat_le, cond, List, [], ◌∷◌, ◌++◌, length, drop, map, filter, slice_get, Option, Some, arith, length-append, append_assoc}
+use Rattle.std.specs.List.{list_any, AllByRecursion}
+use Rattle.std.proofs.lemmas.Bool.{and_parts, ltb-true, leb-true, lt-ltb, le-leb}
 use Rattle.std.proofs.lemmas.List.{take-append-le, drop-append-le, append-nil}
 use Rattle.std.proofs.Math.Seq.{take-length}
 use Rattle.page_map.specs.declared.pages.Mode.{Mode}
 use Rattle.page_map.specs.declared.pages.Mode.TheVariants as modes
 use Rattle.page_map.specs.declared.ranges.LogEntry.{LogEntry}
 use Rattle.page_map.specs.declared.ranges.LogEntry.TheVariants as entries
-use Rattle.page_map.specs.Logs.{Slot, live, writable, stays, is_written, is_writable, removes, upgrades, between, is_in, upgraded, next_slots, slots_from, slots_of}
-use Rattle.window_core.proofs.Places.{at_last, at_longer, in_range}
+use Rattle.page_map.specs.Logs.{Slot, live, stays, is_writable, removes, upgrades, between, is_in, upgraded, next_slots, slots_from, slots_of}
+use Rattle.window_core.proofs.Places.{at_last, at_longer}
 
 -- the entries after k, of which the last is new
 between_more : (log : List LogEntry) (e : LogEntry) (k : ℕ) → k < length log → between (log ++ e ∷ []) k (length (log ++ e ∷ [])) ≡ between log k (length log) ++ e ∷ []

@@ -1,5 +1,5 @@
 -- Where chunks are placed after one more entry.
-use Rattle.std.proofs.Common.{◌≡◌, ◌≢◌, ◌∙◌, ap, sym, refl, subst, ℕ, ◌+◌, ◌<◌, ◌==◌, ◌&&◌, not, Bool, true, false, nat_lt, is_some, is_none, cond, List, [], ◌∷◌, ◌++◌, length, map, filter, slice_get, Option, Some, None, option_map, arith, ne_eqb, eq-eqb}
+use Rattle.std.proofs.Common.{◌≡◌, ◌≢◌, ◌∙◌, ap, sym, refl, ℕ, ◌<◌, ◌==◌, not, Bool, true, false, is_some, cond, List, [], ◌∷◌, ◌++◌, length, map, filter, Option, Some, None, option_map, ne_eqb, eq-eqb}
 use Rattle.std.specs.List.{find, AllByRecursion}
 use Rattle.std.proofs.lemmas.Bool.{eqb-true}
 use Rattle.page_map.specs.declared.pages.Mode.{Mode}
@@ -10,9 +10,9 @@ use Rattle.page_map.specs.declared.ranges.Placed.{Placed}
 use Rattle.page_map.specs.Logs.{Slot, is_of, is_in, is_writable, upgraded, next_slots, slots_of, may_follow, may_upgrade, sound, placed_at, slot_in, placed_of}
 use Rattle.range_tree.proofs.Finds.{find-append_some, find-append_none, find-filter, find-holds}
 use Rattle.range_tree.proofs.Growing.{slots_of-append, sound-append}
-use Rattle.range_tree.proofs.Apart.{IsApart, Apart, apart_of}
+use Rattle.range_tree.proofs.Apart.{IsApart, apart_of}
 use Rattle.range_tree.proofs.Agreeing.{found_in_range, may_place}
-use Rattle.window_core.proofs.Living.{IsLiving, Living, living_of}
+use Rattle.window_core.proofs.Living.{IsLiving, living_of}
 
 -- ---- what is found
 

@@ -1,12 +1,10 @@
 -- When the window's half of the core is good.
-use Rattle.std.specs.Prelude.{◌≡◌, ℕ, ◌<◌, ◌≤◌, List, length, slice_get, Option, Some, None, IsTrue}
+use Rattle.std.specs.Prelude.{◌≡◌, ℕ, ◌<◌, ◌≤◌, length, slice_get, Some, IsTrue}
 use Rattle.page_map.specs.declared.pages.Mode.{Mode}
 use Rattle.page_map.specs.declared.pages.Mode.TheVariants as modes
 use Rattle.page_map.specs.declared.ranges.Placed.{Placed}
-use Rattle.page_map.specs.declared.ranges.Target.{Target}
 use Rattle.page_map.specs.Logs.{live, sound}
 use Rattle.range_tree.specs.Trees.{place_entry, max_ranges}
-use Rattle.window_core.specs.declared.states.RangeState.{RangeState}
 use Rattle.window_core.specs.declared.states.RangeState.TheVariants as ranges
 use Rattle.window_core.specs.declared.states.Pin.{Pin}
 use Rattle.window_core.specs.Window.{Side, Window, state, target, side, pins, seen_by, placed, IsTarget, HasTree, target_of}

@@ -1,13 +1,14 @@
 -- The window's half of the core: its state, what a guest may do to it, and what that makes of it.
 use Rattle.std.specs.Prelude.{◌≡◌, ◌≢◌, ◌⊎◌, ℕ, ◌+◌, ◌<◌, ◌==◌, List, [], ◌∷◌, ◌++◌, length, slice_set, slice_index_or, Bool, if◌then◌else◌, Option, Some, None, MatchBool, ⊤}
 use Rattle.std.specs.List.{sum_by, count_by, remove}
-use Rattle.plain_file.specs.declared.operations.Through.{Through}
 use Rattle.page_map.specs.declared.pages.Mode.{Mode}
 use Rattle.page_map.specs.declared.pages.Mode.TheVariants as modes
 use Rattle.page_map.specs.declared.ranges.LogEntry.{LogEntry}
 use Rattle.page_map.specs.declared.ranges.Placed.{Placed}
 use Rattle.page_map.specs.declared.ranges.Target.{Target}
-use Rattle.page_map.specs.Logs.{placed_at, is_writable}
+use Rattle.page_map.specs.declared.ranges.RangeWord.{RangeWord}
+use Rattle.page_map.specs.declared.ranges.RangeWord.TheVariants as words
+use Rattle.page_map.specs.Logs.{placed_at}
 use Rattle.page_map.specs.Window.{max_chunks}
 use Rattle.range_tree.specs.Trees.{IsReading, place_entry, upgrade_entry, remove_entry}
 use Rattle.window_core.specs.declared.states.RangeState.{RangeState}
@@ -204,6 +205,25 @@ IsUnpin r d = d ≡ unpin r
 abbrev pub IsUpgrade : ℕ → Deed → Type 0
 IsUpgrade r d = (f : ℕ) × (c : ℕ) × (p : Placed) × (p.range ≡ r) × (d ≡ upgrade f c p)
 
+-- the tree that the guest has has the range there, or nowhere
+abbrev pub IsThere : Window → ℕ → ℕ → ℕ → ℕ → Placed → Type 0
+IsThere h g r f c p = HasTree h g f × (placed h f c ≡ Some p) × (p.range ≡ r)
+
+abbrev pub IsNowhere : Window → ℕ → ℕ → Type 0
+IsNowhere h g r = (f c : ℕ) (p : Placed) → IsThere h g r f c p → ⊥
+
+-- what is placed with that mode is for reading, and the range's pages are mapped for writing
+abbrev pub MayRaise : Window → ℕ → Mode → Type 0
+MayRaise h r m = (m ≡ modes.R) × ((t : Target) × (target h r ≡ Some t) × (t.mode ≡ modes.W))
+
+-- the guest has the file's tree, without the chunk
+abbrev pub MaySettle : Window → ℕ → Target → Type 0
+MaySettle h g t = HasTree h g t.file × (placed h t.file t.chunk ≡ None)
+
+-- the guest may settle no range at that chunk with that mode
+abbrev pub IsUnsettled : Window → ℕ → ℕ → Mode → Type 0
+IsUnsettled h g c m = (r f : ℕ) → Allowed h g (settle_mapped r f c m) → ⊥
+
 -- the range is mapped to that chunk of the file
 abbrev pub IsMapped : Window → ℕ → ℕ → ℕ → Type 0
 IsMapped h r f c = (m : Mode) × (state h r ≡ ranges.Mapped f c m)
@@ -212,3 +232,14 @@ IsMapped h r f c = (m : Mode) × (state h r ≡ ranges.Mapped f c m)
 abbrev pub DidTake : Bool → Window → ℕ → ℕ → ℕ → ℕ → Window → Type 0
 DidTake result h g r f c new = MatchBool result (((m : Mode) → state h r ≡ ranges.Mapped f c m → Allowed h g (take_mapped r f c m)) × (new ≡ with_entry g f r (ranges.Moving g) (remove_entry r) h))
     (((m : Mode) → Allowed h g (take_mapped r f c m) → ⊥) × (new ≡ h))
+
+-- ---- what everybody sees of a range
+
+abbrev pub word_of : RangeState → ℕ → RangeWord
+word_of ranges.Free pins = words.Free
+word_of (ranges.Moving g) pins = words.Moving g
+word_of (ranges.Mapped f c m) pins = words.Mapped f c m pins
+
+-- its state, and where it is mapped the number of all guests' pins on it
+abbrev pub word_at : Window → ℕ → RangeWord
+word_at h r = word_of (state h r) (pin_count h r)

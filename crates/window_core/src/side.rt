@@ -53,6 +53,16 @@ impl CoreSide {
         self.tree.find(chunk)
     }
 
+    // Whether a chunk is placed in this range.
+    pub(crate) fn has_placed(&self, chunk: u32, range: u32) -> bool
+        ensures { MatchBool result (IsPlaced self.now.log chunk range) (IsPlaced self.now.log chunk range → ⊥) }
+    {
+        match self.tree.find(chunk) {
+            Some(placed) => placed.range == range,
+            None => false,
+        }
+    }
+
     pub(crate) fn enter(&mut self, guest: u32)
         requires { guest < length self.old.seen }
         ensures { self.new ≡ entered guest self.old }
@@ -95,7 +105,13 @@ impl CoreSide {
         let _ = placed;
     }
 
-    pub(crate) fn place(&mut self, guest: u32, chunk: u32, range: u32, mode: Mode) -> Result<(), Memory>
+    pub(crate) fn place(
+        &mut self,
+        guest: u32,
+        chunk: u32,
+        range: u32,
+        mode: Mode,
+    ) -> Result<(), Memory>
         requires guest { guest < length self.old.seen }
         requires chunk { chunk < max_chunks }
         requires range { range < max_ranges }

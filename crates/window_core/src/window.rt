@@ -1,13 +1,16 @@
 ghost use Rattle.std.specs.Prelude.{◌≡◌, ◌≢◌, ◌≤◌, ◌<◌, ◌+◌, ◌*◌, ℕ, length, None, Some, MatchBool, MatchOption, MatchResult};
-ghost use Rattle.window_core.specs.Window.{Did, DidTake, HasTree, IsMapped, IsEnter, IsLeave, IsLook, IsPin, IsSetMap, IsSettleFree, IsSettleMapped, IsTake, IsUnpin, IsUpgrade, Still, Treeless, pin_count, pins, side, state};
+ghost use Rattle.page_map.specs.declared.pages.Mode.TheVariants as modes;
+ghost use Rattle.window_core.specs.Window.{Allowed, Did, DidTake, HasTree, InTree, IsMapped, IsNowhere, IsTarget, IsThere, IsEnter, IsLeave, IsLook, IsPin, IsSetMap, IsSettleFree, IsSettleMapped, IsTake, IsUnpin, IsUnsettled, IsUpgrade, MayRaise, MaySettle, Still, Treeless, pin_count, pins, settle_mapped, side, state, word_at};
 ghost use Rattle.window_core.specs.Machine.{window_of};
 ghost use Rattle.window_core.specs.Good.{IsGood, IsGuest};
 ghost use Rattle.window_core.specs.declared.states.RangeState.TheVariants as ranges;
 
 use crate::pin_row::PinRow;
 use crate::side::CoreSide;
-use crate::states::RangeState;
-use page_map::Target;
+use crate::states::{Pin, RangeState};
+use page_map::{MAX_CHUNKS, Mode, Placed, RangeWord, Target};
+use plain_file::{Memory, Through};
+use range_tree::Tree;
 
 /// The window of the core, with the trees of its files and the pins of its guests. Contracts see it
 /// through `window_of` of `specs/`.
@@ -27,6 +30,34 @@ fn is_moved_by(state: RangeState, guest: u32) -> bool
         RangeState::Moving { guest: mover } => mover == guest,
         _ => false,
     }
+}
+
+// Where a tree has a range.
+#[derive(Clone, Copy, Debug)]
+struct Found {
+    file: u32,
+    chunk: u32,
+    placed: Placed,
+}
+
+// Where a range may be settled.
+#[derive(Clone, Copy, Debug)]
+struct Spot {
+    range: u32,
+    file: u32,
+}
+
+// Whether the target is this chunk with this mode.
+fn is_at(target: Target, chunk: u32, mode: Mode) -> bool
+    ensures { MatchBool result ((target.chunk ≡ chunk) × (target.mode ≡ mode)) (((target.chunk ≡ chunk) × (target.mode ≡ mode)) → ⊥) }
+{
+    target.chunk == chunk && target.mode == mode
+}
+
+fn is_for_writing(mode: Mode) -> bool
+    ensures { MatchBool result (mode ≡ modes.W) (mode ≡ modes.R) }
+{
+    matches!(mode, Mode::W)
 }
 
 impl CoreWindow {
@@ -150,5 +181,203 @@ impl CoreWindow {
         ensures { Did result (window_of self.old) guest (IsUnpin range) (window_of self.new) }
     {
         self.pins[guest as usize].unpin(range)
+    }
+    // Whether the file is one of the core's, and the chunk one that a file may have.
+    fn is_target(&self, to: Option<Target>) -> bool
+        ensures { MatchBool result (IsTarget (window_of self.now) to) (IsTarget (window_of self.now) to → ⊥) }
+    {
+        match to {
+            Some(target) => {
+                (target.file as usize) < self.sides.len() && target.chunk < MAX_CHUNKS
+            }
+            None => true,
+        }
+    }
+
+    // Whether the guest has the tree in which the range is placed at that target, which is for writing.
+    fn is_in_tree(&self, guest: u32, range: u32, to: Option<Target>) -> bool
+        requires { IsTarget (window_of self.now) to }
+        ensures { MatchBool result (InTree (window_of self.now) guest range to) (InTree (window_of self.now) guest range to → ⊥) }
+    {
+        let Some(target) = to else {
+            return false;
+        };
+        let side = &self.sides[target.file as usize];
+        side.has_tree(guest) && is_for_writing(target.mode) && side.has_placed(target.chunk, range)
+    }
+
+    /// Sets what a range's pages are mapped to. The guest moves the range, or it has the tree in which the range is
+    /// placed at that target, which is for writing.
+    pub fn set_map(&mut self, guest: u32, range: u32, to: Option<Target>) -> bool
+        requires { IsGuest guest (window_of self.old) }
+        ensures { Did result (window_of self.old) guest (IsSetMap range to) (window_of self.new) }
+    {
+        let at = range as usize;
+        if at >= self.states.len() || !self.is_target(to) {
+            return false;
+        }
+        if !is_moved_by(self.states[at], guest) && !self.is_in_tree(guest, range, to) {
+            return false;
+        }
+        self.targets[at] = to;
+        true
+    }
+
+    // Where the tree that the guest has has the range.
+    fn find(&self, guest: u32, range: u32) -> Option<Found>
+        requires { IsGood (window_of self.now) }
+        ensures { MatchOption result (IsNowhere (window_of self.now) guest range) (λ x. IsThere (window_of self.now) guest range x.file x.chunk x.placed) }
+    {
+        let at = range as usize;
+        if at >= self.states.len() {
+            return None;
+        }
+        let RangeState::Mapped { file, chunk, .. } = self.states[at] else {
+            return None;
+        };
+        let side = &self.sides[file as usize];
+        if !side.has_tree(guest) {
+            return None;
+        }
+        let Some(placed) = side.find(chunk) else {
+            return None;
+        };
+        Some(Found {
+            file,
+            chunk,
+            placed,
+        })
+    }
+
+    /// Pins a range that the tree which the guest has has. The guest has fewer than 64 pins.
+    pub fn pin(&mut self, guest: u32, range: u32) -> Result<bool, Memory>
+        requires { IsGuest guest (window_of self.old) }
+        ensures { MatchResult result (λ b. Did b (window_of self.old) guest (IsPin range) (window_of self.new)) (λ _. window_of self.new ≡ window_of self.old) }
+    {
+        let Some(found) = self.find(guest, range) else {
+            return Ok(false);
+        };
+        if self.pins[guest as usize].len() >= 64 {
+            return Ok(false);
+        }
+        let upto = self.sides[found.file as usize].tree().log().len() as u64;
+        self.pins[guest as usize].push(Pin {
+            range,
+            file: found.file,
+            chunk: found.chunk,
+            mode: found.placed.mode,
+            through: Through {
+                entry: found.placed.entry,
+                upto,
+            },
+        })?;
+        Ok(true)
+    }
+
+    // Whether a placement with this mode, in this range, may be made one for writing.
+    fn may_raise(&self, range: u32, mode: Mode) -> bool
+        requires { range < length self.now.targets.items }
+        ensures { MatchBool result (MayRaise (window_of self.now) range mode) (MayRaise (window_of self.now) range mode → ⊥) }
+    {
+        let Some(target) = self.targets[range as usize] else {
+            return false;
+        };
+        is_for_writing(target.mode) && !is_for_writing(mode)
+    }
+
+    /// A range that the tree which the guest has has for reading may be written from here on. Its pages are mapped
+    /// for writing.
+    pub fn upgrade(&mut self, guest: u32, range: u32) -> bool
+        requires { IsGuest guest (window_of self.old) }
+        ensures { Did result (window_of self.old) guest (IsUpgrade range) (window_of self.new) }
+    {
+        let Some(found) = self.find(guest, range) else {
+            return false;
+        };
+        if !self.may_raise(range, found.placed.mode) {
+            return false;
+        }
+        self.sides[found.file as usize].upgrade(guest, found.chunk, found.placed);
+        self.states[range as usize] = RangeState::Mapped {
+            file: found.file,
+            chunk: found.chunk,
+            mode: Mode::W,
+        };
+        true
+    }
+    // Whether the range, which the guest moves, may be settled at this chunk of a file with this mode.
+    fn may_settle(&self, guest: u32, target: Target) -> bool
+        requires { target.file < length self.now.sides.items }
+        ensures { MatchBool result (MaySettle (window_of self.now) guest target) (MaySettle (window_of self.now) guest target → ⊥) }
+    {
+        let side = &self.sides[target.file as usize];
+        side.has_tree(guest) && side.find(target.chunk).is_none()
+    }
+
+    // The range that the guest moves, and the file at whose chunk it may be settled.
+    fn find_spot(&self, guest: u32, chunk: u32, mode: Mode) -> Option<Spot>
+        requires { IsGood (window_of self.now) }
+        ensures { MatchOption result (IsUnsettled (window_of self.now) guest chunk mode) (λ s. Allowed (window_of self.now) guest (settle_mapped s.range s.file chunk mode)) }
+    {
+        let Some(range) = self.moved_by(guest) else {
+            return None;
+        };
+        let Some(target) = self.targets[range] else {
+            return None;
+        };
+        if !is_at(target, chunk, mode) {
+            return None;
+        }
+        if !self.may_settle(guest, target) {
+            return None;
+        }
+        Some(Spot {
+            range: range as u32,
+            file: target.file,
+        })
+    }
+
+    /// Settles the range that the guest moves: its pages are mapped to this chunk, with this mode, of the file whose
+    /// tree the guest has, and the tree gets the chunk, which it doesn't have.
+    pub fn settle_mapped(&mut self, guest: u32, chunk: u32, mode: Mode) -> Result<bool, Memory>
+        requires { IsGuest guest (window_of self.old) }
+        ensures { MatchResult result (λ b. Did b (window_of self.old) guest (IsSettleMapped chunk mode) (window_of self.new)) (λ _. window_of self.new ≡ window_of self.old) }
+    {
+        let Some(spot) = self.find_spot(guest, chunk, mode) else {
+            return Ok(false);
+        };
+        self.sides[spot.file as usize].place(guest, chunk, spot.range, mode)?;
+        self.states[spot.range as usize] = RangeState::Mapped {
+            file: spot.file,
+            chunk,
+            mode,
+        };
+        Ok(true)
+    }
+
+    /// The tree of a file.
+    pub fn tree(&self, file: u32) -> &Tree
+        requires { file < length (window_of self.now).sides }
+        ensures { result.now ≡ (side (window_of self.now) file).log }
+    {
+        self.sides[file as usize].tree()
+    }
+
+    /// What a range is to everybody.
+    pub fn word(&self, range: u32) -> RangeWord
+        requires good { IsGood (window_of self.now) }
+        requires known { range < length (window_of self.now).states }
+        ensures { result ≡ word_at (window_of self.now) range }
+    {
+        match self.states[range as usize] {
+            RangeState::Free => RangeWord::Free,
+            RangeState::Moving { guest } => RangeWord::Moving { guest },
+            RangeState::Mapped { file, chunk, mode } => RangeWord::Mapped {
+                file,
+                chunk,
+                mode,
+                pins: self.count(range),
+            },
+        }
     }
 }

@@ -1,4 +1,4 @@
-use Rattle.std.proofs.Common.{◌≡◌, ◌<◌, ◌≤◌, ap, List, [], ℕ, arith, length}
+use Rattle.std.proofs.Common.{◌<◌, ◌≤◌, ap, List, [], arith, length}
 use Rattle.std.proofs.lemmas.List.Sums.{sum_by_more, count_by-le-length}
 use Rattle.window_core.specs.declared.states.Pin.{Pin}
 use Rattle.window_core.specs.Window.{pins_on, on_range}

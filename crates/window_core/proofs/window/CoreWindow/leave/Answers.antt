@@ -1,5 +1,5 @@
-use Rattle.std.proofs.Common.{◌≡◌, ◌<◌, refl, sym, ap, ◌∙◌, arith, length, set}
-use Rattle.window_core.specs.Window.{Side, no_side, left, leave, side}
+use Rattle.std.proofs.Common.{refl, sym, ap, ◌∙◌, set}
+use Rattle.window_core.specs.Window.{no_side, left, leave}
 use Rattle.window_core.specs.Machine.{window_of}
 use Rattle.window_core.proofs.Places.{at_default}
 use Rattle.window_core.proofs.Keeps.{side_inside}
