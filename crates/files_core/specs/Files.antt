@@ -1,5 +1,5 @@
 -- The files' half of the core: its state, what a guest may do to it, and what that makes of it.
-use Rattle.std.specs.Prelude.{◌≡◌, ◌≢◌, ℕ, zero, suc, ◌+◌, ◌-◌, ◌<◌, ◌≤◌, max, List, [], ◌∷◌, ◌++◌, map, length, slice_set, slice_index_or, Option, Some, None, Bool, MatchBool, ⊤}
+use Rattle.std.specs.Prelude.{◌≡◌, ◌≢◌, ℕ, zero, suc, ◌+◌, ◌-◌, ◌<◌, ◌≤◌, max, List, [], ◌∷◌, ◌++◌, map, length, replicate, slice_set, slice_index_or, Option, Some, None, Bool, MatchBool, ⊤}
 use Rattle.std.specs.List.{sum_by}
 use Rattle.plain_file.specs.declared.operations.Op.{Op}
 use Rattle.plain_file.specs.declared.operations.Op.TheVariants as ops
@@ -198,3 +198,11 @@ DidOne result cs g d new = MatchBool result ((f : ℕ) × Allowed cs g (on f d) 
 -- the same of one file, where its own state decides
 abbrev pub DidHere : Bool → FileState → ℕ → Deed → FileState → Type 0
 DidHere result c g d new = MatchBool result (May c g d × (new ≡ made c g d)) ((May c g d → ⊥) × (new ≡ c))
+
+-- ---- the files at their start
+
+abbrev pub new_file : ℕ → First → FileState
+new_file guests first = record { first = first; turn = None; applied = None; history = []; size = first.size; bar = None; rows = replicate guests blank }
+
+abbrev pub new_files : ℕ → List First → List FileState
+new_files guests firsts = map (new_file guests) firsts

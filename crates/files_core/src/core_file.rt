@@ -1,6 +1,6 @@
-ghost use Rattle.std.specs.Prelude.{◌≡◌, ◌≢◌, ◌≤◌, ◌<◌, ℕ, nat_le, length, IfOk, OnErr, OnOk, Some, MatchBool, MatchResult};
+ghost use Rattle.std.specs.Prelude.{◌≡◌, ◌≢◌, ◌≤◌, ◌<◌, ℕ, nat_le, length, replicate, IfOk, OnErr, OnOk, Some, MatchBool, MatchResult};
 ghost use Rattle.plain_file.specs.File.{max_file, reach};
-ghost use Rattle.files_core.specs.Files.{DidHere, MaySet, clear_bar, give_turn, lease, leases, made, note_size, set_bar, set_size, sized, take_turn, unlease};
+ghost use Rattle.files_core.specs.Files.{DidHere, MaySet, blank, clear_bar, give_turn, lease, leases, made, new_file, note_size, set_bar, set_size, sized, take_turn, unlease};
 
 use crate::rows::GuestRow;
 use plain_file::{Entry, First, MAX_FILE, Memory, Op};
@@ -65,7 +65,31 @@ fn sized(size: u64, op: &Op) -> u64
     }
 }
 
+fn new_rows(alloc: Global, guests: u32) -> Result<Vec<GuestRow>, Memory>
+    ensures { IfOk result (λ v. v.items ≡ replicate guests blank) }
+{
+    let mut rows = Vec::new(alloc);
+    for _guest in 0..guests {
+        rows.push(GuestRow::new(alloc))?;
+    }
+    Ok(rows)
+}
+
 impl CoreFile {
+    pub(crate) fn new(alloc: Global, first: First, guests: u32) -> Result<CoreFile, Memory>
+        ensures { IfOk result (λ c. c ≡ new_file guests first) }
+    {
+        Ok(CoreFile {
+            first,
+            turn: None,
+            applied: None,
+            history: Vec::new(alloc),
+            size: first.size,
+            bar: None,
+            rows: new_rows(alloc, guests)?,
+        })
+    }
+
     pub(crate) fn history(&self) -> &[Entry]
         ensures { result.now ≡ self.now.history }
     {

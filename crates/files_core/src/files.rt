@@ -1,10 +1,11 @@
 ghost use Rattle.std.specs.Prelude.{◌≡◌, ◌≢◌, ◌≤◌, ◌<◌, ℕ, length, replicate, All, IfOk, MatchOption, MatchResult, OnErr, OnOk, Some};
 ghost use Rattle.plain_file.specs.File.{max_file};
-ghost use Rattle.files_core.specs.Files.{Barless, Did, DidOne, Turnless, clear_bar, file, give_turn, lease, note_size, on, set_bar, set_size, take_turn, unlease};
+ghost use Rattle.files_core.specs.Files.{Barless, Did, DidOne, Turnless, clear_bar, file, give_turn, lease, new_files, note_size, on, set_bar, set_size, take_turn, unlease};
 ghost use Rattle.files_core.specs.Good.{IsGuest};
 
 use crate::core_file::CoreFile;
-use plain_file::{Entry, Memory};
+use plain_file::{Entry, First, Memory};
+use std::alloc::Global;
 use std::marker::Model;
 
 /// The files of the core.
@@ -23,6 +24,18 @@ impl Model for Files {
 }
 
 impl Files {
+    /// Files with these first contents, for so many guests. Nothing was done to them yet. `Memory` comes where an
+    /// allocation was refused.
+    pub fn new(alloc: Global, firsts: &[First], guests: u32) -> Result<Files, Memory>
+        ensures { IfOk result (λ s. s ≡ new_files guests firsts.now) }
+    {
+        let mut files = Vec::new(alloc);
+        for first in firsts {
+            files.push(CoreFile::new(alloc, *first, guests)?)?;
+        }
+        Ok(Files { files })
+    }
+
     // The file whose turn the guest has.
     fn turn_of(&self, guest: u32) -> Option<usize>
         ensures { MatchOption result (Turnless self.now guest) (λ f. (file self.now f).turn ≡ Some guest) }

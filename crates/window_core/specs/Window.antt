@@ -1,5 +1,5 @@
 -- The window's half of the core: its state, what a guest may do to it, and what that makes of it.
-use Rattle.std.specs.Prelude.{◌≡◌, ◌≢◌, ◌⊎◌, ℕ, ◌+◌, ◌<◌, ◌==◌, List, [], ◌∷◌, ◌++◌, length, slice_set, slice_index_or, Bool, if◌then◌else◌, Option, Some, None, MatchBool, ⊤}
+use Rattle.std.specs.Prelude.{◌≡◌, ◌≢◌, ◌⊎◌, ℕ, ◌+◌, ◌<◌, ◌==◌, List, [], ◌∷◌, ◌++◌, length, replicate, slice_set, slice_index_or, Bool, if◌then◌else◌, Option, Some, None, MatchBool, ⊤}
 use Rattle.std.specs.List.{sum_by, count_by, remove}
 use Rattle.page_map.specs.declared.pages.Mode.{Mode}
 use Rattle.page_map.specs.declared.pages.Mode.TheVariants as modes
@@ -243,3 +243,11 @@ word_of (ranges.Mapped f c m) pins = words.Mapped f c m pins
 -- its state, and where it is mapped the number of all guests' pins on it
 abbrev pub word_at : Window → ℕ → RangeWord
 word_at h r = word_of (state h r) (pin_count h r)
+
+-- ---- the window at its start
+
+abbrev pub new_side : ℕ → Side
+new_side guests = record { holder = None; log = []; seen = replicate guests 0 }
+
+abbrev pub new_window : ℕ → ℕ → ℕ → Window
+new_window n files guests = record { states = replicate n ranges.Free; targets = replicate n None; sides = replicate files (new_side guests); pins = replicate guests [] }

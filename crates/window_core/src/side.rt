@@ -1,12 +1,13 @@
-ghost use Rattle.std.specs.Prelude.{◌≡◌, ◌≢◌, ◌<◌, length, slice_set, None, Some, MatchBool, OnErr, OnOk};
+ghost use Rattle.std.specs.Prelude.{◌≡◌, ◌≢◌, ◌<◌, length, slice_set, None, Some, IfOk, MatchBool, OnErr, OnOk};
 ghost use Rattle.page_map.specs.Logs.{placed_at, slot_in};
 ghost use Rattle.page_map.specs.Window.{max_chunks};
 ghost use Rattle.range_tree.specs.Trees.{IsReading, max_ranges, place_entry, remove_entry, upgrade_entry};
-ghost use Rattle.window_core.specs.Window.{IsPlaced, entered, grown, left};
+ghost use Rattle.window_core.specs.Window.{IsPlaced, entered, grown, left, new_side};
 
 use page_map::{Mode, Placed};
 use plain_file::Memory;
 use range_tree::Tree;
+use std::alloc::Global;
 use std::marker::Model;
 
 // One file: its tree, who has it, and how much of its log each guest has seen.
@@ -26,6 +27,16 @@ impl Model for CoreSide {
 }
 
 impl CoreSide {
+    pub(crate) fn new(alloc: Global, guests: u32) -> Result<CoreSide, Memory>
+        ensures { IfOk result (λ s. s ≡ new_side guests) }
+    {
+        Ok(CoreSide {
+            holder: None,
+            tree: Tree::new(alloc),
+            seen: vec![in alloc; 0; guests as usize]?,
+        })
+    }
+
     pub(crate) fn tree(&self) -> &Tree
         ensures { result.now ≡ self.now.log }
     {

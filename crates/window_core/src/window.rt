@@ -1,6 +1,6 @@
-ghost use Rattle.std.specs.Prelude.{◌≡◌, ◌≢◌, ◌≤◌, ◌<◌, ◌+◌, ◌*◌, ℕ, length, None, Some, MatchBool, MatchOption, MatchResult};
+ghost use Rattle.std.specs.Prelude.{◌≡◌, ◌≢◌, ◌≤◌, ◌<◌, ◌+◌, ◌*◌, ℕ, [], length, replicate, IfOk, None, Some, MatchBool, MatchOption, MatchResult};
 ghost use Rattle.page_map.specs.declared.pages.Mode.TheVariants as modes;
-ghost use Rattle.window_core.specs.Window.{Allowed, Did, DidTake, HasTree, InTree, IsMapped, IsNowhere, IsTarget, IsThere, IsEnter, IsLeave, IsLook, IsPin, IsSetMap, IsSettleFree, IsSettleMapped, IsTake, IsUnpin, IsUnsettled, IsUpgrade, MayRaise, MaySettle, Still, Treeless, pin_count, pins, settle_mapped, side, state, word_at};
+ghost use Rattle.window_core.specs.Window.{Allowed, Did, DidTake, HasTree, InTree, IsMapped, IsNowhere, IsTarget, IsThere, IsEnter, IsLeave, IsLook, IsPin, IsSetMap, IsSettleFree, IsSettleMapped, IsTake, IsUnpin, IsUnsettled, IsUpgrade, MayRaise, MaySettle, Still, Treeless, pin_count, new_side, new_window, pins, settle_mapped, side, state, word_at};
 ghost use Rattle.window_core.specs.Machine.{window_of};
 ghost use Rattle.window_core.specs.Good.{IsGood, IsGuest};
 ghost use Rattle.window_core.specs.declared.states.RangeState.TheVariants as ranges;
@@ -11,6 +11,7 @@ use crate::states::{Pin, RangeState};
 use page_map::{MAX_CHUNKS, Mode, Placed, RangeWord, Target};
 use plain_file::{Memory, Through};
 use range_tree::Tree;
+use std::alloc::Global;
 
 /// The window of the core, with the trees of its files and the pins of its guests. Contracts see it
 /// through `window_of` of `specs/`.
@@ -60,7 +61,40 @@ fn is_for_writing(mode: Mode) -> bool
     matches!(mode, Mode::W)
 }
 
+fn new_sides(alloc: Global, files: u32, guests: u32) -> Result<Vec<CoreSide>, Memory>
+    ensures { IfOk result (λ v. v.items ≡ replicate files (new_side guests)) }
+{
+    let mut sides = Vec::new(alloc);
+    for _file in 0..files {
+        sides.push(CoreSide::new(alloc, guests)?)?;
+    }
+    Ok(sides)
+}
+
+fn new_pins(alloc: Global, guests: u32) -> Result<Vec<PinRow>, Memory>
+    ensures { IfOk result (λ v. v.items ≡ replicate guests []) }
+{
+    let mut pins = Vec::new(alloc);
+    for _guest in 0..guests {
+        pins.push(PinRow::new(alloc))?;
+    }
+    Ok(pins)
+}
+
 impl CoreWindow {
+    /// A window of so many ranges, all of which are free, for so many files and guests. `Memory` comes where an
+    /// allocation was refused.
+    pub fn new(alloc: Global, ranges: u32, files: u32, guests: u32) -> Result<CoreWindow, Memory>
+        ensures { IfOk result (λ w. window_of w ≡ new_window ranges files guests) }
+    {
+        Ok(CoreWindow {
+            states: vec![in alloc; RangeState::Free; ranges as usize]?,
+            targets: vec![in alloc; None; ranges as usize]?,
+            sides: new_sides(alloc, files, guests)?,
+            pins: new_pins(alloc, guests)?,
+        })
+    }
+
     // The file whose tree the guest has.
     fn tree_of(&self, guest: u32) -> Option<usize>
         ensures { MatchOption result (Treeless (window_of self.now) guest) (λ f. HasTree (window_of self.now) guest f) }
