@@ -2,3 +2,5 @@ pub mod Places
 pub mod Sizes
 pub mod Keeps
 pub mod AllKeep
+pub mod Starts
+pub mod Grows

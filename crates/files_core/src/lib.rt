@@ -3,7 +3,9 @@
 
 mod core_file;
 mod files;
+mod laws;
 mod rows;
 
 pub use files::Files;
+pub use laws::files_core_laws;
 pub use rows::Note;

@@ -4,3 +4,6 @@ pub mod Placing
 pub mod Keeps
 pub mod Deeds
 pub mod Reading
+pub mod Starts
+pub mod Grows
+pub mod Lives

@@ -52,7 +52,7 @@ when_none (Some x) P Q e m = absurd (cc)
 pub far_nowhere : (h : Window) → IsGood h → (g r : ℕ) → length h.states ≤ r → IsNowhere h g r
 far_nowhere h good g r far f c p there = let l = mapped_inside h p.range f c p.mode (good.2.placed_mapped f c p there.1) in let e = there.2 in absurd (omega arith)
 
-no_log : (c : ℕ) → placed_at [] c ≡ None
+pub no_log : (c : ℕ) → placed_at [] c ≡ None
 unfolding placed_at slots_of slots_from
 no_log c = refl
 

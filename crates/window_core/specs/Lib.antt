@@ -1,3 +1,4 @@
 pub mod Window
 pub mod Good
 pub mod Machine
+pub mod Laws

@@ -1,5 +1,4 @@
 use Rattle.std.proofs.Common.{◌≡◌, [], replicate}
-use Rattle.window_core.specs.Window.{new_side}
 use Rattle.window_core.proofs.window.new_pins.Given as goal
 
 abbrev pub invariant-loop-guest : goal.invariant-loop-guest

@@ -1,4 +1,4 @@
-use Rattle.std.proofs.Common.{◌≡◌, [], replicate}
+use Rattle.std.proofs.Common.{◌≡◌, replicate}
 use Rattle.window_core.specs.Window.{new_side}
 use Rattle.window_core.proofs.window.new_sides.Given as goal
 
