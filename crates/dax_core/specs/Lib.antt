@@ -1,0 +1,4 @@
+pub mod Core
+pub mod Events
+pub mod Halves
+pub mod Laws

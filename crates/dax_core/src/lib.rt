@@ -1,0 +1,7 @@
+//! The core over all schedules: the machine of ranges, trees, logs, pins, turns, histories, leases, bars and sizes.
+#![tactic(auto)]
+
+mod events;
+mod steps;
+
+pub use events::{Event, GuestEvent};
