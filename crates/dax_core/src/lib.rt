@@ -2,6 +2,8 @@
 #![tactic(auto)]
 
 mod events;
+mod machine;
 mod steps;
 
 pub use events::{Event, GuestEvent};
+pub use machine::Core;
