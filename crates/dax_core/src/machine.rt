@@ -54,9 +54,14 @@ impl Core {
         })
     }
 
-    /// Does an event of a guest, where it is allowed, and answers whether it is. `Memory` comes where an allocation was
-    /// refused; nothing has changed then.
-    pub fn step(&mut self, guest: u32, event: &Event) -> Result<bool, Memory>
+    /// What holds of every core: it is good.
+    pub fn sound(&self)
+        ensures { Good self.now }
+    {
+        let _ = &self.window;
+    }
+
+    fn do_event(&mut self, guest: u32, event: &Event) -> Result<bool, Memory>
         ensures { MatchResult result (λ done. Stepped done self.old guest event.now self.new) (λ _. self.new ≡ self.old) }
     {
         if guest >= self.guests {
@@ -66,5 +71,58 @@ impl Core {
             return Ok(true);
         }
         step_files(&mut self.files, guest, event)
+    }
+
+    /// Does an event of a guest, where it is allowed, and answers whether it is. The core stays good, and histories and
+    /// logs grow at most. `Memory` comes where an allocation was refused; nothing has changed then.
+    pub fn step(&mut self, guest: u32, event: &Event) -> Result<bool, Memory>
+        ensures stepped { MatchResult result (λ done. Stepped done self.old guest event.now self.new) (λ _. self.new ≡ self.old) }
+        ensures good { Good self.new }
+        ensures grown { Grows self.old self.new }
+    {
+        self.sound();
+        self.do_event(guest, event)
+    }
+
+    /// Runs events in their order, each of which is done where it is allowed, and answers how many were. The core stays
+    /// good, and histories and logs grow at most. `Memory` comes where an allocation was refused; a front of the events
+    /// was run then.
+    pub fn run_all(&mut self, events: &List<GuestEvent>) -> Result<u64, Memory>
+        ensures ran { MatchResult result (λ n. Ran self.old events.now n self.new) (λ _. RanFront self.old events.now self.new) }
+        ensures good { Good self.new }
+        ensures grown { Grows self.old self.new }
+    {
+        self.sound();
+        let mut allowed = 0;
+        for event in events.as_slice() {
+            if self.step(event.guest, &event.event)? {
+                allowed += 1;
+            }
+        }
+        Ok(allowed)
+    }
+
+    /// The history of a file.
+    pub fn history(&self, at: u32) -> &[Entry]
+        requires { at < length self.now.files }
+        ensures { result.now ≡ (file self.now.files at).history }
+    {
+        self.files.history(at)
+    }
+
+    /// The tree of a file, which contracts see as its log.
+    pub fn tree(&self, at: u32) -> &Tree
+        requires { at < length self.now.window.sides }
+        ensures { result.now ≡ (side self.now.window at).log }
+    {
+        self.window.tree(at)
+    }
+
+    /// What a range is to everybody.
+    pub fn word(&self, range: u32) -> RangeWord
+        requires { range < length self.now.window.states }
+        ensures { result ≡ word_at self.now.window range }
+    {
+        self.window.word(range)
     }
 }
