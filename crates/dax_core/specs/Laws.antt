@@ -9,7 +9,8 @@ use Rattle.files_core.specs.Good.{GoodFiles}
 use Rattle.window_core.specs.Window as window
 use Rattle.window_core.specs.Good.{GoodWindow, max_guests}
 use Rattle.dax_core.specs.Core.{CoreState, Deed, on_window, on_files, Allowed, after, Good, new_core}
-use Rattle.dax_core.specs.Events.{Grows}
+use Rattle.dax_core.specs.declared.events.Event.{Event}
+use Rattle.dax_core.specs.Events.{Grows, IsDeed}
 
 -- a core in which nothing was done yet is good
 abbrev pub StartIsGood : Type 0
@@ -21,6 +22,10 @@ StaysGood = (c : CoreState) (g : ℕ) (d : Deed) → Good c → Allowed c g d �
 
 abbrev pub OnlyGrows : Type 0
 OnlyGrows = (c : CoreState) (g : ℕ) (d : Deed) → Allowed c g d → Grows c (after c g d)
+
+-- the deeds of an event that a good core allows a guest make the same of it
+abbrev pub OneOutcome : Type 0
+OneOutcome = (c : CoreState) (g : ℕ) (e : Event) (d d' : Deed) → Good c → IsDeed e d → IsDeed e d' → Allowed c g d → Allowed c g d' → after c g d ≡ after c g d'
 
 -- The law of halves: a core is good exactly where both halves are. A deed is of one half, which alone decides whether it
 -- is allowed and what it changes; the other half stays as it is.

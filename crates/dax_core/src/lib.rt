@@ -2,8 +2,10 @@
 #![tactic(auto)]
 
 mod events;
+mod laws;
 mod machine;
 mod steps;
 
 pub use events::{Event, GuestEvent};
+pub use laws::dax_core_laws;
 pub use machine::Core;
