@@ -72,7 +72,11 @@ Ran c (e ∷ es) n new = (done : Bool) × (mid : CoreState) × (k : ℕ) × Step
 abbrev pub RanFront : CoreState → List GuestEvent → CoreState → Type 0
 RanFront c es new = (k : ℕ) × (n : ℕ) × (k ≤ length es) × Ran c (take k es) n new
 
--- each history and each log begins with what it was
+-- Each history and each log begins with what it was, and there are as many guests, ranges and files.
 pub record Grows (old new : CoreState) : Type 0 where
   pub histories : (f : ℕ) → Begins (file old.files f).history (file new.files f).history
   pub logs : (f : ℕ) → Begins (side old.window f).log (side new.window f).log
+  pub guests : new.guests ≡ old.guests
+  pub ranges : length new.window.states ≡ length old.window.states
+  pub trees : length new.window.sides ≡ length old.window.sides
+  pub files : length new.files ≡ length old.files

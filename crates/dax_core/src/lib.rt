@@ -5,6 +5,8 @@ mod events;
 mod laws;
 mod machine;
 mod steps;
+#[cfg(test)]
+mod tests;
 
 pub use events::{Event, GuestEvent};
 pub use laws::dax_core_laws;

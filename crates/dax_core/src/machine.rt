@@ -39,7 +39,12 @@ impl Model for Core {
 impl Core {
     /// A core of so many ranges and guests, in whose files with these first contents nothing was done yet. All ranges
     /// are free. `Memory` comes where an allocation was refused.
-    pub fn new(alloc: Global, ranges: u32, firsts: &List<First>, guests: u32) -> Result<Core, Memory>
+    pub fn new(
+        alloc: Global,
+        ranges: u32,
+        firsts: &List<First>,
+        guests: u32,
+    ) -> Result<Core, Memory>
         requires ranges { ranges ≤ max_ranges }
         requires guests { guests ≤ max_guests }
         requires few { length firsts.now ≤ 64 }

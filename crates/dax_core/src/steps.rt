@@ -10,7 +10,11 @@ use plain_file::Memory;
 use window_core::CoreWindow;
 
 // Does an event of the window where it is allowed. Events of the files are none.
-pub(crate) fn step_window(window: &mut CoreWindow, guest: u32, event: &Event) -> Result<bool, Memory>
+pub(crate) fn step_window(
+    window: &mut CoreWindow,
+    guest: u32,
+    event: &Event,
+) -> Result<bool, Memory>
     requires { good_windows.IsGuest guest (window_of window.old) }
     ensures { MatchResult result (λ b. DidOnWindow b (window_of window.old) guest event.now (window_of window.new)) (λ _. window_of window.new ≡ window_of window.old) }
 {

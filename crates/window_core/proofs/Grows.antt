@@ -1,8 +1,10 @@
 -- Logs only grow.
-use Rattle.std.proofs.Common.{ℕ, ◌<◌, List, [], ◌∷◌, length, set, slice_index_or, refl, sym, subst, ⊎_elim}
+use Rattle.std.proofs.Common.{◌≡◌, ℕ, ◌<◌, List, [], ◌∷◌, length, set, slice_index_or, refl, sym, subst, ⊎_elim, length-set}
 use Rattle.std.proofs.lemmas.List.{append-nil}
+use Rattle.page_map.specs.declared.pages.Mode.TheVariants as modes
 use Rattle.page_map.specs.declared.ranges.LogEntry.{LogEntry}
 use Rattle.range_tree.specs.Trees.{place_entry, upgrade_entry, remove_entry}
+use Rattle.window_core.specs.declared.states.RangeState.TheVariants as ranges
 use Rattle.window_core.specs.Window.{Side, Window, no_side, side, HasTree, grown, entered, left, Deed, enter, leave, look, take_free, take_mapped, set_map, settle_mapped, settle_free, pin, unpin, upgrade, Allowed, after}
 use Rattle.window_core.specs.Laws.{Begins}
 use Rattle.window_core.proofs.Places.{at_put}
@@ -32,3 +34,16 @@ logs_grow h g (settle_free r) a f = same (side h f).log
 logs_grow h g (pin i c p) a f = same (side h f).log
 logs_grow h g (unpin r) a f = same (side h f).log
 logs_grow h g (upgrade i c p) a f = entry_grows h g i (upgrade_entry p.range) a.0 f
+
+pub sizes_stay : (g : ℕ) (h : Window) (d : Deed) → (length (after h g d).states ≡ length h.states) × (length (after h g d).sides ≡ length h.sides)
+sizes_stay g h (enter i) = (refl, length-set h.sides i (entered g (side h i)))
+sizes_stay g h (leave i) = (refl, length-set h.sides i (left (side h i)))
+sizes_stay g h (look r) = (refl, refl)
+sizes_stay g h (take_free r) = (length-set h.states r (ranges.Moving g), refl)
+sizes_stay g h (take_mapped r i c m) = (length-set h.states r (ranges.Moving g), length-set h.sides i (grown g (remove_entry r) (side h i)))
+sizes_stay g h (set_map r t) = (refl, refl)
+sizes_stay g h (settle_mapped r i c m) = (length-set h.states r (ranges.Mapped i c m), length-set h.sides i (grown g (place_entry c r m) (side h i)))
+sizes_stay g h (settle_free r) = (length-set h.states r ranges.Free, refl)
+sizes_stay g h (pin i c p) = (refl, refl)
+sizes_stay g h (unpin r) = (refl, refl)
+sizes_stay g h (upgrade i c p) = (length-set h.states p.range (ranges.Mapped i c modes.W), length-set h.sides i (grown g (upgrade_entry p.range) (side h i)))

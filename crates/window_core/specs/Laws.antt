@@ -24,6 +24,10 @@ StaysGood = (guests g : ℕ) (h : Window) (d : Deed) → g < guests → GoodWind
 abbrev pub LogsGrow : Type 0
 LogsGrow = (g f : ℕ) (h : Window) (d : Deed) → Allowed h g d → Begins (side h f).log (side (after h g d) f).log
 
+-- and the numbers of ranges and of files stay
+abbrev pub SizesStay : Type 0
+SizesStay = (g : ℕ) (h : Window) (d : Deed) → (length (after h g d).states ≡ length h.states) × (length (after h g d).sides ≡ length h.sides)
+
 -- What is placed at a log's end is what the entry of its placement placed, and that is live there; it may be written
 -- exactly where it is writable there.
 pub record IsLivePlace (log : List LogEntry) (c : ℕ) (p : Placed) : Type 0 where

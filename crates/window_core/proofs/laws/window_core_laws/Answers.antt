@@ -1,6 +1,6 @@
 use Rattle.window_core.proofs.Starts.{window_start}
 use Rattle.window_core.proofs.Deeds.{window_keeps}
-use Rattle.window_core.proofs.Grows.{logs_grow}
+use Rattle.window_core.proofs.Grows.{logs_grow, sizes_stay}
 use Rattle.window_core.proofs.Lives.{placed_lives}
 use Rattle.window_core.proofs.laws.window_core_laws.Goals as goal
 
@@ -15,3 +15,6 @@ returns-clause-logs c = λ g f h d a. logs_grow h g d a f
 
 pub returns-clause-placed : goal.returns-clause-placed
 returns-clause-placed c = placed_lives
+
+pub returns-clause-sizes : goal.returns-clause-sizes
+returns-clause-sizes c = sizes_stay
