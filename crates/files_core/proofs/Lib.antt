@@ -4,3 +4,4 @@ pub mod Keeps
 pub mod AllKeep
 pub mod Starts
 pub mod Grows
+pub mod Others

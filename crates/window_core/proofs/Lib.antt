@@ -7,3 +7,4 @@ pub mod Reading
 pub mod Starts
 pub mod Grows
 pub mod Lives
+pub mod Others
