@@ -1,0 +1,4 @@
+pub mod Stepping
+pub mod Running
+pub mod Halving
+pub mod Outcomes

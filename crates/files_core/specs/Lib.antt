@@ -1,0 +1,4 @@
+pub mod Files
+pub mod Good
+pub mod Laws
+pub mod Shown

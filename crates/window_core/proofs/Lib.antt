@@ -1,0 +1,10 @@
+pub mod Places
+pub mod Living
+pub mod Placing
+pub mod Keeps
+pub mod Deeds
+pub mod Reading
+pub mod Starts
+pub mod Grows
+pub mod Lives
+pub mod Others

@@ -1,0 +1,40 @@
+-- What holds of the window's half of the core, whatever guests do.
+use Rattle.std.specs.Prelude.{◌≡◌, ℕ, ◌<◌, ◌≤◌, List, ◌++◌, length, slice_get, Some, IsTrue}
+use Rattle.page_map.specs.declared.pages.Mode.{Mode}
+use Rattle.page_map.specs.declared.ranges.LogEntry.{LogEntry}
+use Rattle.page_map.specs.declared.ranges.Placed.{Placed}
+use Rattle.page_map.specs.Logs.{live, writable, is_writable, placed_at}
+use Rattle.range_tree.specs.Trees.{max_ranges, place_entry}
+use Rattle.window_core.specs.Window.{Window, side, Deed, Allowed, after, new_window}
+use Rattle.window_core.specs.Good.{GoodWindow}
+
+-- the second list begins with the first
+abbrev pub Begins : {A : Type 0} → List A → List A → Type 0
+Begins {A} xs ys = (rest : List A) × (xs ++ rest ≡ ys)
+
+-- a window in which nothing was done yet is good
+abbrev pub StartIsGood : Type 0
+StartIsGood = (ranges files guests : ℕ) → ranges ≤ max_ranges → GoodWindow guests (new_window ranges files guests)
+
+-- each deed that is allowed keeps it good
+abbrev pub StaysGood : Type 0
+StaysGood = (guests g : ℕ) (h : Window) (d : Deed) → g < guests → GoodWindow guests h → Allowed h g d → GoodWindow guests (after h g d)
+
+-- and the logs only grow
+abbrev pub LogsGrow : Type 0
+LogsGrow = (g f : ℕ) (h : Window) (d : Deed) → Allowed h g d → Begins (side h f).log (side (after h g d) f).log
+
+-- and the numbers of ranges and of files stay
+abbrev pub SizesStay : Type 0
+SizesStay = (g : ℕ) (h : Window) (d : Deed) → (length (after h g d).states ≡ length h.states) × (length (after h g d).sides ≡ length h.sides)
+
+-- What is placed at a log's end is what the entry of its placement placed, and that is live there; it may be written
+-- exactly where it is writable there.
+pub record IsLivePlace (log : List LogEntry) (c : ℕ) (p : Placed) : Type 0 where
+  pub first : Mode
+  pub place : slice_get log p.entry ≡ Some (place_entry c p.range first)
+  pub lives : IsTrue (live log p.entry (length log))
+  pub mode : is_writable p.mode ≡ writable log p.entry (length log)
+
+abbrev pub PlacedIsLive : Type 0
+PlacedIsLive = (log : List LogEntry) (c : ℕ) (p : Placed) → placed_at log c ≡ Some p → IsLivePlace log c p

@@ -1,0 +1,17 @@
+ghost use Rattle.window_core.specs.Shown.{OthersSeeTheSame};
+ghost use Rattle.window_core.specs.Laws.{LogsGrow, PlacedIsLive, SizesStay, StartIsGood, StaysGood};
+
+/// What holds of the window's half of the core, whatever guests do.
+///
+/// It does nothing: its clauses are laws of the definitions in which the other contracts speak. A window in which
+/// nothing was done yet is good; each deed that is allowed keeps it good, and lets the logs grow at most; the numbers of ranges and files stay, and each other
+/// guest is shown the same after it. What is
+/// placed at a log's end is live there, and may be written exactly where it is writable there.
+pub fn window_core_laws()
+    ensures start { StartIsGood }
+    ensures good { StaysGood }
+    ensures logs { LogsGrow }
+    ensures sizes { SizesStay }
+    ensures others { OthersSeeTheSame }
+    ensures placed { PlacedIsLive }
+{}
