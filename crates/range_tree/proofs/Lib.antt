@@ -11,5 +11,5 @@ pub mod Seeing
 pub mod Pages
 pub mod Whole
 pub mod Moves
-pub mod Lives
+pub mod Living
 pub mod Setting

@@ -6,7 +6,7 @@ use Rattle.range_tree.specs.Plain.{entries_of}
 use Rattle.range_tree.proofs.OneGuest.{parts_of}
 use Rattle.range_tree.proofs.Seeing.{get_or-any}
 use Rattle.range_tree.proofs.Moves.{tree-known}
-use Rattle.range_tree.proofs.Lives.{finds-placed}
+use Rattle.range_tree.proofs.Living.{finds-placed}
 use Rattle.range_tree.proofs.plain_turns.PlainRangesRangeBoard.find.Goals as goal
 
 pub returns-clause-live : goal.returns-clause-live
