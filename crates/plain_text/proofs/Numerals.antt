@@ -1,15 +1,15 @@
 -- What number digits write, and how large it is.
-use Rattle.std.proofs.Common.{◌≡◌, ◌∙◌, ap, sym, refl, ℕ, ◌+◌, ◌*◌, ◌-◌, ◌<◌, ◌≤◌, ◌^◌, true, false, List, [], ◌∷◌, ◌++◌, length, get_or, take, drop, Some, None, IfSome, if◌then◌else◌, arith, tests}
+use Rattle.std.proofs.Common.{◌≡◌, ◌∙◌, ap, sym, refl, ℕ, suc, ◌+◌, ◌*◌, ◌-◌, ◌<◌, ◌≤◌, ◌^◌, true, false, List, [], ◌∷◌, ◌++◌, length, get_or, take, drop, Some, None, IfSome, if◌then◌else◌, arith, tests}
 use Rattle.std.proofs.Math.Seq.{drop-cons}
 use Rattle.std.proofs.Math.ListN.{drop_of_length-le}
-use Rattle.std.proofs.lemmas.List.{take-append-drop}
+use Rattle.std.proofs.lemmas.List.{take-append-drop, take_all}
 use Rattle.std.proofs.lemmas.Option.{IfSome_then}
 use Rattle.std.proofs.Math.Nat.{mul_assoc, pow-succ', pow-le-pow_right, mul-le-mul_right}
 use Rattle.std.specs.Char.{is_ascii_digit}
 use Rattle.plain_text.specs.Options.{◌>>=◌}
-use Rattle.plain_text.specs.Numbers.{number_after, capped}
+use Rattle.plain_text.specs.Numbers.{number_after}
 
-digit_small : (c : ℕ) → is_ascii_digit c ≡ true → c - 48 ≤ 9
+pub digit_small : (c : ℕ) → is_ascii_digit c ≡ true → c - 48 ≤ 9
 digit_small c is = grind (arith, tests)
 
 -- digits behind those of n write less than n + 1 with so many zeros
@@ -25,14 +25,33 @@ number_below n (c ∷ cs) =
       | false ↦ λ _. tt
     ] refl
 
--- the number that 19 digits at most write is counted exactly
-pub counted : (w rest : List ℕ) (n m : ℕ) → length w ≤ 19 → n ≡ capped m → number_after m rest ≡ number_after 0 w → length rest < 1 → (Some n ≡ number_after 0 w) × (n < 10 ^ 19)
-counted w (c ∷ cs) n m short e h none = absurd (omega (arith, none))
-counted w [] n m short e h none =
-    let below : m < (0 + 1) * 10 ^ length w = rw (← h) at (number_below 0 w) in
-    let small : 10 ^ length w ≤ 10 ^ 19 = pow-le-pow_right (omega arith) short in
-    let same : n ≡ m = omega (arith, e, below, small) in
-    (ap Some same ∙ h, omega (arith, same, below, small))
+-- so many digits that come before others of a word of 19 at most write a number that takes one more
+abbrev pub IsBegun : List ℕ → List ℕ → ℕ → Type 0
+IsBegun w rest n = (k : ℕ) × (k + length rest ≡ length w) × (n < 10 ^ k) × (number_after n rest ≡ number_after 0 w)
+
+pub begun_small : (w rest : List ℕ) (n : ℕ) → length w ≤ 19 → 1 ≤ length rest → IsBegun w rest n → n < 10 ^ 18
+begun_small w rest n short some (k, e, below, h) =
+    let few : k ≤ 18 = omega (arith, e, short, some) in
+    let small : 10 ^ k ≤ 10 ^ 18 = pow-le-pow_right (omega arith) few in
+    omega (arith, below, small)
+
+begun_more : (w rest : List ℕ) (c n : ℕ) → is_ascii_digit c ≡ true → IsBegun w (c ∷ rest) n → IsBegun w rest (n * 10 + (c - 48))
+begun_more w rest c n is (k, e, below, h) =
+    let one : k + 1 ≡ suc k = omega arith in
+    let more : 10 ^ (k + 1) ≡ 10 * 10 ^ k = ap (λ j. 10 ^ j) one ∙ pow-succ' 10 k in
+    let read : number_after n (c ∷ rest) ≡ number_after (n * 10 + (c - 48)) rest = rw is refl in
+    (k + 1, omega (arith, e), omega (arith, below, more, digit_small c is), sym read ∙ h)
+
+pub begun_next : (w rest : List ℕ) (n : ℕ) → 1 ≤ length rest → is_ascii_digit (get_or rest 0 0) ≡ true → IsBegun w rest n → IsBegun w (take (length rest - 1) (drop 1 rest)) (n * 10 + (get_or rest 0 0 - 48))
+begun_next w [] n some is begun = absurd (omega (arith, some))
+begun_next w (c ∷ cs) n some is begun = rw (take_all (length (c ∷ cs) - 1) cs (omega arith)) (begun_more w cs c n is begun)
+
+pub begun_done : (w rest : List ℕ) (n : ℕ) → length w ≤ 19 → length rest < 1 → IsBegun w rest n → (Some n ≡ number_after 0 w) × (n < 10 ^ 19)
+begun_done w (c ∷ cs) n short none begun = absurd (omega (arith, none))
+begun_done w [] n short none (k, e, below, h) =
+    let few : k ≤ 19 = omega (arith, e, short) in
+    let small : 10 ^ k ≤ 10 ^ 19 = pow-le-pow_right (omega arith) few in
+    (h, omega (arith, below, small))
 
 number_after-append : (n : ℕ) (xs ys : List ℕ) → number_after n (xs ++ ys) ≡ number_after n xs >>= λ m. number_after m ys
 number_after-append n [] ys = refl

@@ -42,7 +42,7 @@ fn digits(word: &[u8]) -> Option<u64>
         if !c.is_ascii_digit() {
             return None;
         }
-        n = n.saturating_mul(10).saturating_add((*c - b'0') as u64);
+        n = n * 10 + (*c - b'0') as u64;
         rest = after;
     }
     Some(n)
