@@ -59,7 +59,7 @@ impl Core {
         })
     }
 
-    /// What holds of every core: it is good.
+    /// Does nothing: tells that the core is good.
     pub fn sound(&self)
         ensures { Good self.now }
     {

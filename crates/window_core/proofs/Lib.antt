@@ -8,3 +8,4 @@ pub mod Starts
 pub mod Grows
 pub mod Lives
 pub mod Others
+pub mod Exact

@@ -12,13 +12,13 @@ use Rattle.page_map.specs.Logs.{Slot, live, stays, is_writable, removes, upgrade
 use Rattle.window_core.proofs.Places.{at_last, at_longer}
 
 -- the entries after k, of which the last is new
-between_more : (log : List LogEntry) (e : LogEntry) (k : ℕ) → k < length log → between (log ++ e ∷ []) k (length (log ++ e ∷ [])) ≡ between log k (length log) ++ e ∷ []
+pub between_more : (log : List LogEntry) (e : LogEntry) (k : ℕ) → k < length log → between (log ++ e ∷ []) k (length (log ++ e ∷ [])) ≡ between log k (length log) ++ e ∷ []
 between_more log e k near = ap (λ (l : List LogEntry). drop (k + 1) l) (take-length (log ++ e ∷ [])) ∙ (drop-append-le (k + 1) log (e ∷ []) (omega arith) ∙ ap (λ (l : List LogEntry). drop (k + 1) l ++ e ∷ []) (sym (take-length log)))
 
 between_same : (log : List LogEntry) (e : LogEntry) (k m : ℕ) → m ≤ length log → between (log ++ e ∷ []) k m ≡ between log k m
 between_same log e k m few = ap (λ (l : List LogEntry). drop (k + 1) l) (take-append-le m log (e ∷ []) few)
 
-any_more : {A : Type 0} (f : A → Bool) (xs : List A) (y : A) → list_any f (xs ++ y ∷ []) ≡ (list_any f xs || f y)
+pub any_more : {A : Type 0} (f : A → Bool) (xs : List A) (y : A) → list_any f (xs ++ y ∷ []) ≡ (list_any f xs || f y)
 any_more f [] y = grind arith
 any_more f (x ∷ xs) y = ap (λ (b : Bool). f x || b) (any_more f xs y) ∙ assoc (f x) (list_any f xs) (f y)
   where

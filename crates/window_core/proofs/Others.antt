@@ -1,8 +1,7 @@
 -- Whatever a guest does, each other is shown the same.
-use Rattle.std.proofs.Common.{◌≡◌, ◌≢◌, ◌⊎◌, ℕ, zero, suc, ◌+◌, ◌<◌, ◌≤◌, ◌==◌, List, [], ◌∷◌, ◌++◌, map, take, length, set, get_or, Bool, true, false, cond, Option, Some, None, refl, sym, ap, ◌∙◌, subst, ⊎_elim, inl, inr, arith, length-set, get_or-set_other, ne_eqb}
+use Rattle.std.proofs.Common.{◌≡◌, ◌≢◌, ◌⊎◌, ℕ, zero, suc, ◌+◌, ◌<◌, ◌≤◌, ◌==◌, List, [], ◌∷◌, ◌++◌, map, take, length, set, get_or, Bool, false, cond, Option, Some, None, refl, sym, ap, ◌∙◌, ⊎_elim, inl, inr, arith, length-set, get_or-set_other, ne_eqb}
 use lib.Seq.{map-set_same}
 use Rattle.std.proofs.lemmas.List.{take-append-le}
-use Rattle.page_map.specs.declared.pages.Mode.{Mode}
 use Rattle.page_map.specs.declared.pages.Mode.TheVariants as modes
 use Rattle.page_map.specs.declared.ranges.LogEntry.{LogEntry}
 use Rattle.page_map.specs.declared.ranges.Target.{Target}
@@ -11,7 +10,7 @@ use Rattle.window_core.specs.declared.states.RangeState.{RangeState}
 use Rattle.window_core.specs.declared.states.RangeState.TheVariants as ranges
 use Rattle.window_core.specs.Window.{Side, Window, no_side, state, target, side, pins, seen_by, unpinned, new_pin, HasTree, InTree, grown, entered, left, with_entry, Deed, enter, leave, look, take_free, take_mapped, set_map, settle_mapped, settle_free, pin, unpin, upgrade, Allowed, after}
 use Rattle.window_core.specs.Good.{GoodWindow}
-use Rattle.window_core.specs.Shown.{Shown, Branch, is_guest, is_moving, branch, listed, holds, map_held, shown}
+use Rattle.window_core.specs.Shown.{is_guest, is_moving, branch, listed, holds, map_held, shown}
 use Rattle.window_core.proofs.Places.{at_put}
 use Rattle.window_core.proofs.Keeps.{side_inside, mapped_inside, moving_inside}
 

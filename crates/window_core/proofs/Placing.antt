@@ -16,7 +16,7 @@ use Rattle.window_core.proofs.Living.{IsLiving, living_of}
 
 -- ---- what is found
 
-find-map_option : {X : Type 0} (test : X → Bool) (f : X → X) → ((x : X) → test (f x) ≡ test x) → (xs : List X) → find test (map f xs) ≡ option_map f (find test xs)
+pub find-map_option : {X : Type 0} (test : X → Bool) (f : X → X) → ((x : X) → test (f x) ≡ test x) → (xs : List X) → find test (map f xs) ≡ option_map f (find test xs)
 find-map_option test f same [] = refl
 find-map_option test f same (x ∷ xs) = rw (same x) (go (test x) (find-map_option test f same xs))
   where

@@ -3,7 +3,7 @@ use Rattle.std.specs.Prelude.{◌≡◌, ℕ, ◌<◌, ◌≤◌, List, ◌++◌
 use Rattle.page_map.specs.declared.pages.Mode.{Mode}
 use Rattle.page_map.specs.declared.ranges.LogEntry.{LogEntry}
 use Rattle.page_map.specs.declared.ranges.Placed.{Placed}
-use Rattle.page_map.specs.Logs.{live, writable, is_writable, placed_at}
+use Rattle.page_map.specs.Logs.{live, writable, is_writable, placed_at, sound}
 use Rattle.range_tree.specs.Trees.{max_ranges, place_entry}
 use Rattle.window_core.specs.Window.{Window, side, Deed, Allowed, after, new_window}
 use Rattle.window_core.specs.Good.{GoodWindow}
@@ -38,3 +38,10 @@ pub record IsLivePlace (log : List LogEntry) (c : ℕ) (p : Placed) : Type 0 whe
 
 abbrev pub PlacedIsLive : Type 0
 PlacedIsLive = (log : List LogEntry) (c : ℕ) (p : Placed) → placed_at log c ≡ Some p → IsLivePlace log c p
+
+-- and what is live at a sound log's end is placed there
+abbrev pub IsPlacedBy : List LogEntry → ℕ → ℕ → ℕ → Type 0
+IsPlacedBy log k c r = (p : Placed) × (placed_at log c ≡ Some p) × (p.entry ≡ k) × (p.range ≡ r)
+
+abbrev pub LiveIsPlaced : Type 0
+LiveIsPlaced = (ranges : ℕ) (log : List LogEntry) (k c r : ℕ) (first : Mode) → IsTrue (sound ranges log) → slice_get log k ≡ Some (place_entry c r first) → IsTrue (live log k (length log)) → IsPlacedBy log k c r

@@ -1,6 +1,5 @@
 -- What a guest is shown of the window's half of the core.
-use Rattle.std.specs.Prelude.{◌≡◌, ◌≢◌, ℕ, zero, suc, ◌<◌, ◌==◌, List, [], ◌∷◌, map, take, length, Bool, false, if◌then◌else◌, Option, Some, None}
-use Rattle.page_map.specs.declared.pages.Mode.{Mode}
+use Rattle.std.specs.Prelude.{◌≡◌, ◌≢◌, ℕ, zero, suc, ◌==◌, List, [], ◌∷◌, map, take, length, Bool, false, if◌then◌else◌, Option, Some, None}
 use Rattle.page_map.specs.declared.ranges.LogEntry.{LogEntry}
 use Rattle.page_map.specs.declared.ranges.Target.{Target}
 use Rattle.window_core.specs.declared.states.RangeState.{RangeState}

@@ -283,6 +283,14 @@ impl CoreWindow {
         })
     }
 
+    // Whether the guest may have one pin more.
+    fn has_room(&self, guest: u32) -> bool
+        requires { guest < length self.now.pins.items }
+        ensures { MatchBool result (length (pins (window_of self.now) guest) < 64) (64 ≤ length (pins (window_of self.now) guest)) }
+    {
+        self.pins[guest as usize].len() < 64
+    }
+
     /// Pins a range that the tree which the guest has has. The guest has fewer than 64 pins.
     pub fn pin(&mut self, guest: u32, range: u32) -> Result<bool, Memory>
         requires { IsGuest guest (window_of self.old) }
@@ -291,7 +299,7 @@ impl CoreWindow {
         let Some(found) = self.find(guest, range) else {
             return Ok(false);
         };
-        if self.pins[guest as usize].len() >= 64 {
+        if !self.has_room(guest) {
             return Ok(false);
         }
         let upto = self.sides[found.file as usize].tree().log().len() as u64;

@@ -2,6 +2,7 @@ use Rattle.window_core.proofs.Starts.{window_start}
 use Rattle.window_core.proofs.Deeds.{window_keeps}
 use Rattle.window_core.proofs.Grows.{logs_grow, sizes_stay}
 use Rattle.window_core.proofs.Others.{others_see}
+use Rattle.window_core.proofs.Exact.{live_placed}
 use Rattle.window_core.proofs.Lives.{placed_lives}
 use Rattle.window_core.proofs.laws.window_core_laws.Goals as goal
 
@@ -22,3 +23,6 @@ returns-clause-sizes c = sizes_stay
 
 pub returns-clause-others : goal.returns-clause-others
 returns-clause-others c = λ guests g other h d ne good a. others_see guests h g other ne good d a
+
+pub returns-clause-live : goal.returns-clause-live
+returns-clause-live c = live_placed
