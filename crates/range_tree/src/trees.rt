@@ -3,6 +3,7 @@ ghost use Rattle.std.specs.List.{list_any};
 ghost use Rattle.page_map.specs.Board.{chunk_in, is_chunk_of};
 ghost use Rattle.page_map.specs.Logs.{placed_at, slot_in, slots_of, sound};
 ghost use Rattle.page_map.specs.Window.{max_chunks};
+ghost use Rattle.range_tree.specs.Logs.{Finds};
 ghost use Rattle.range_tree.specs.Trees.{KeepsSound, IsReading, max_ranges, place_entry, upgrade_entry, remove_entry};
 
 use crate::slots::{Spot, has_span, in_range, of_chunk, remove, spot_of, upgrade};
@@ -57,10 +58,11 @@ impl Tree {
     }
 
     /// Where a chunk is placed: its range, what the placement allows now, and the place of its `Place` in
-    /// the log. None exactly where it isn't placed.
+    /// the log, which is live at the log's end. None exactly where no `Place` of it is live there.
     #[tactic(auto, unfolding(page_map::specs::Logs::placed_at))]
     pub fn find(&self, chunk: u32) -> Option<Placed>
-        ensures { result ≡ placed_at self.now chunk }
+        ensures placed { result ≡ placed_at self.now chunk }
+        ensures live { Finds self.now chunk result }
     {
         let spot = of_chunk(&self.spots, chunk)?;
         Some(Placed {

@@ -15,5 +15,5 @@ returns-clause-live c =
     let file = c.in-Some.file in
     let known = tree-known p file c.self.invariant c.in-Some.is in
     let log : c.index.result.now ≡ entries_of p file = c.index.ensures ∙ get_or-any p.logs file _ _ known in
-    let at : c.find.result ≡ placed_at (entries_of p file) c.args.chunk = c.find.ensures ∙ ap (λ l. placed_at l c.args.chunk) log in
+    let at : c.find.result ≡ placed_at (entries_of p file) c.args.chunk = c.find.ensures.placed ∙ ap (λ l. placed_at l c.args.chunk) log in
     rw (← c.self.view_is, c.in-Some.is) (subst (λ (o : Option Placed). Finds (entries_of p file) c.args.chunk o) (sym at) (finds-placed _ (entries_of p file) c.args.chunk (c.self.invariant.logs file known)))

@@ -18,7 +18,7 @@ unreachable-requires-in_default-find c =
     let file = c.in-Some.file in
     let log : c.index.result.now ≡ entries_of p file = c.index.ensures ∙ get_or-any p.logs file _ _ (tree-known p file c.self.invariant c.in-Some.is) in
     let can : CanUpgrade (plain_view p) c.args.chunk = rw (← c.self.view_is) at c.requires in
-    let at : placed_at (entries_of p file) c.args.chunk ≡ None = ap (λ l. placed_at l c.args.chunk) (sym log) ∙ (sym c.find.ensures ∙ c.in_default-find.is) in
+    let at : placed_at (entries_of p file) c.args.chunk ≡ None = ap (λ l. placed_at l c.args.chunk) (sym log) ∙ (sym c.find.ensures.placed ∙ c.in_default-find.is) in
     let some = (raisable-parts p file c.args.chunk None c.in-Some.is can at).0 in
     let none : IsSome {T = Placed} None = some in
     cc
@@ -30,7 +30,7 @@ upgrade-requires-clause-reading c =
     let log : c.index.result.now ≡ entries_of p file = c.index.ensures ∙ get_or-any p.logs file _ _ (tree-known p file c.self.invariant c.in-Some.is) in
     let log_mut : c.index_mut.result.now ≡ entries_of p file = c.index_mut.ensures.value ∙ get_or-any p.logs file _ _ (tree-known p file c.self.invariant c.in-Some.is) in
     let can : CanUpgrade (plain_view p) c.args.chunk = rw (← c.self.view_is) at c.requires in
-    let at : placed_at (entries_of p file) c.args.chunk ≡ Some c.in-Some-find.placed = ap (λ l. placed_at l c.args.chunk) (sym log) ∙ (sym c.find.ensures ∙ c.in-Some-find.is) in
+    let at : placed_at (entries_of p file) c.args.chunk ≡ Some c.in-Some-find.placed = ap (λ l. placed_at l c.args.chunk) (sym log) ∙ (sym c.find.ensures.placed ∙ c.in-Some-find.is) in
     let r : IsReadingIn p file c.args.chunk c.in-Some-find.placed = (raisable-parts p file c.args.chunk (Some c.in-Some-find.placed) c.in-Some.is can at).1 in
     subst (λ (o : Option Placed). IfSome o IsReading) (sym (ap (λ l. placed_at l c.args.chunk) log_mut ∙ at)) (reading-mode c.in-Some-find.placed.mode r.reading)
 
@@ -40,7 +40,7 @@ index_mut-requires-2 c =
     let file = c.in-Some.file in
     let known = tree-known p file c.self.invariant c.in-Some.is in
     let log : c.index.result.now ≡ entries_of p file = c.index.ensures ∙ get_or-any p.logs file _ _ known in
-    let at : placed_at (entries_of p file) c.args.chunk ≡ Some c.in-Some-find.placed = ap (λ l. placed_at l c.args.chunk) (sym log) ∙ (sym c.find.ensures ∙ c.in-Some-find.is) in
+    let at : placed_at (entries_of p file) c.args.chunk ≡ Some c.in-Some-find.placed = ap (λ l. placed_at l c.args.chunk) (sym log) ∙ (sym c.find.ensures.placed ∙ c.in-Some-find.is) in
     let owner = found-owner p file c.args.chunk c.in-Some-find.placed c.self.invariant known at in
     let within = within-owned p c.in-Some-find.placed.range c.self.invariant (rw owner refl) in
     let long = c.self.invariant.owners in
@@ -56,7 +56,7 @@ upgrade_made c =
     let log : c.index.result.now ≡ entries_of p file = c.index.ensures ∙ get_or-any p.logs file _ _ known in
     let log_mut : c.index_mut.result.now ≡ entries_of p file = c.index_mut.ensures.value ∙ get_or-any p.logs file _ _ known in
     let can : CanUpgrade (plain_view p) c.args.chunk = rw (← c.self.view_is) at c.requires in
-    let at : placed_at (entries_of p file) c.args.chunk ≡ Some placed = ap (λ l. placed_at l c.args.chunk) (sym log) ∙ (sym c.find.ensures ∙ c.in-Some-find.is) in
+    let at : placed_at (entries_of p file) c.args.chunk ≡ Some placed = ap (λ l. placed_at l c.args.chunk) (sym log) ∙ (sym c.find.ensures.placed ∙ c.in-Some-find.is) in
     let r : IsReadingIn p file c.args.chunk placed = (raisable-parts p file c.args.chunk (Some placed) c.in-Some.is can at).1 in
     let owner = found-owner p file c.args.chunk placed c.self.invariant known at in
     let done : c.upgrade.new.self ≡ c.index_mut.result.now ++ upgrade_entry placed.range ∷ [] =
