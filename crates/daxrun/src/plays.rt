@@ -23,6 +23,7 @@ use guest_wire::{Driver, Wire};
 use page_map::PageMap;
 use plain_file::{Entry, First, List, Memory, PlainFiles, Way};
 use std::alloc::Global;
+use std::mem::forget;
 use std::sync::Wait;
 
 /// Plays a script that is carried out by a client over a wire to the whole daemon of the script's files,
@@ -50,6 +51,7 @@ where
     let guests = script.guests.as_slice();
     let guests = play_guests(rt, alloc, client, lines, guests, &mut files, &mut map)?;
     let parts = file_parts(alloc, lines, &files)?;
+    forget(files);
     Ok(Transcript {
         version: 1,
         ranges: 0,
