@@ -1,12 +1,9 @@
 -- The law of halves.
-use Rattle.std.proofs.Common.{◌≡◌, ◌↔◌, ℕ, ◌<◌, ◌≤◌, List, refl, sym, ap, subst}
+use Rattle.std.proofs.Common.{ℕ, ◌<◌, List, refl, ap, subst}
 use Rattle.files_core.specs.Files as files
 use Rattle.files_core.specs.Files.{FileState, FileDeed}
-use Rattle.files_core.specs.Good.{GoodFiles}
 use Rattle.window_core.specs.Window as window
 use Rattle.window_core.specs.Window.{Window}
-use Rattle.window_core.specs.Good.{GoodWindow, max_guests}
-use Rattle.dax_core.specs.Core.{CoreState, Deed, on_window, on_files, Allowed, after, Good}
 use Rattle.dax_core.specs.Laws.{GoodByHalves, DecidedByHalves, OtherHalfStays}
 
 pub by_halves : GoodByHalves

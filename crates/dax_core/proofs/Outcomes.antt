@@ -1,13 +1,9 @@
 -- In a good core an event of a guest has one outcome.
-use Rattle.std.proofs.Common.{◌≡◌, ◌⊎◌, ℕ, ◌+◌, ◌<◌, List, Option, Some, None, refl, sym, ap, ◌∙◌, subst, inl, inr}
-use Rattle.page_map.specs.declared.pages.Mode.{Mode}
+use Rattle.std.proofs.Common.{◌≡◌, ℕ, List, Some, sym, ap, ◌∙◌, subst, inl, inr}
 use Rattle.page_map.specs.declared.ranges.Placed.{Placed}
-use Rattle.page_map.specs.declared.ranges.Target.{Target}
-use Rattle.plain_file.specs.declared.operations.Entry.{Entry}
 use Rattle.files_core.specs.Files as files
 use Rattle.files_core.specs.Files.{FileState, FileDeed, file}
 use Rattle.files_core.specs.Good.{GoodFiles}
-use Rattle.window_core.specs.declared.states.RangeState.TheVariants as ranges
 use Rattle.window_core.specs.Window as window
 use Rattle.window_core.specs.Window.{Window, state, target, target_of, placed, IsTake, IsPin, IsUpgrade}
 use Rattle.window_core.specs.Good.{GoodWindow}
@@ -15,8 +11,8 @@ use Rattle.window_core.proofs.Placing.{some_same}
 use Rattle.window_core.proofs.Keeps.{free_mapped, same_mapped}
 use Rattle.dax_core.specs.declared.events.Event.{Event}
 use Rattle.dax_core.specs.declared.events.Event.TheVariants as events
-use Rattle.dax_core.specs.Core.{CoreState, Deed, on_window, on_files, Allowed, after, Good}
-use Rattle.dax_core.specs.Events.{IsWindowDeed, IsFileDeed, IsDeed}
+use Rattle.dax_core.specs.Core.{on_window, on_files, after}
+use Rattle.dax_core.specs.Events.{IsWindowDeed, IsFileDeed}
 use Rattle.dax_core.specs.Laws.{OneOutcome}
 
 module _ (guests : ℕ) (h : Window) (g : ℕ) (good : GoodWindow guests h) where

@@ -1,5 +1,5 @@
 -- Many steps.
-use Rattle.std.proofs.Common.{◌≡◌, ◌≢◌, ℕ, ◌+◌, ◌<◌, ◌≤◌, List, [], ◌∷◌, ◌++◌, length, take, Bool, true, false, cond, refl, sym, ap, ◌∙◌, subst, arith, length-set}
+use Rattle.std.proofs.Common.{◌≡◌, ℕ, ◌+◌, List, [], ◌∷◌, ◌++◌, Bool, true, false, refl, sym, ap, ◌∙◌, subst, arith, length-set}
 use Rattle.std.specs.Prelude.{Result, Ok, Err, MatchResult}
 use Rattle.std.proofs.lemmas.List.{append-nil, append_assoc}
 use Rattle.files_core.specs.Files.{file, made}
@@ -10,7 +10,7 @@ use Rattle.window_core.proofs.Grows.{logs_grow, sizes_stay}
 use Rattle.dax_core.specs.declared.events.Event.{Event}
 use Rattle.dax_core.specs.declared.events.GuestEvent.{GuestEvent}
 use Rattle.dax_core.specs.Core.{CoreState, Deed, on_window, on_files, Allowed, after, Good}
-use Rattle.dax_core.specs.Events.{Stepped, count_of, Ran, RanFront, Grows}
+use Rattle.dax_core.specs.Events.{Stepped, count_of, Ran, Grows}
 use Rattle.dax_core.proofs.Stepping.{step_keeps}
 
 same : {A : Type 0} (xs : List A) → Begins xs xs

@@ -1,8 +1,7 @@
 -- A step of one half is a step of the core, and keeps it good.
-use Rattle.std.proofs.Common.{◌≡◌, ◌≢◌, ℕ, ◌<◌, ◌≤◌, arith, List, All, length, Bool, true, false, refl, sym, ap, ◌∙◌, subst}
+use Rattle.std.proofs.Common.{◌≡◌, ℕ, ◌<◌, ◌≤◌, arith, List, All, length, Bool, true, false, sym, subst}
 use Rattle.std.specs.Prelude.{Result, Ok, Err, MatchResult}
-use Rattle.files_core.specs.Files as files
-use Rattle.files_core.specs.Files.{FileState, FileDeed}
+use Rattle.files_core.specs.Files.{FileState}
 use Rattle.plain_file.specs.declared.operations.First.{First}
 use Rattle.plain_file.specs.File.{max_file}
 use Rattle.range_tree.specs.Trees.{max_ranges}
@@ -10,13 +9,12 @@ use Rattle.window_core.specs.Good.{max_guests}
 use Rattle.files_core.proofs.Starts.{files_start}
 use Rattle.window_core.proofs.Starts.{window_start}
 use Rattle.files_core.proofs.AllKeep.{files_keep}
-use Rattle.files_core.proofs.Grows.{files_grow}
 use Rattle.window_core.specs.Window as window
 use Rattle.window_core.specs.Window.{Window}
 use Rattle.window_core.proofs.Deeds.{window_keeps}
 use Rattle.dax_core.specs.declared.events.Event.{Event}
 use Rattle.dax_core.specs.Core.{CoreState, Deed, on_window, on_files, Allowed, after, Good, new_core}
-use Rattle.dax_core.specs.Events.{IsWindowDeed, IsFileDeed, IsDeed, Stepped}
+use Rattle.dax_core.specs.Events.{IsWindowDeed, IsDeed, Stepped}
 use Rattle.dax_core.specs.Halves.{DidOnWindow, DidOnFiles}
 
 pub core_keeps : (c : CoreState) (g : ℕ) (d : Deed) → Good c → Allowed c g d → Good (after c g d)

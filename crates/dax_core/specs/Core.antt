@@ -1,5 +1,5 @@
 -- The core: its two halves, what a guest may do to it, what that makes of it, and when it is good.
-use Rattle.std.specs.Prelude.{◌≡◌, ℕ, ◌<◌, ◌≤◌, List, length, map}
+use Rattle.std.specs.Prelude.{ℕ, ◌<◌, ◌≤◌, List, length}
 use Rattle.plain_file.specs.declared.operations.First.{First}
 use Rattle.files_core.specs.Files as files
 use Rattle.files_core.specs.Files.{FileState, FileDeed}

@@ -1,5 +1,5 @@
 -- Events: which deeds each of them may be, one step, and lists of steps.
-use Rattle.std.specs.Prelude.{◌≡◌, ℕ, ◌+◌, ◌≤◌, List, [], ◌∷◌, ◌++◌, length, take, Bool, if◌then◌else◌, MatchBool}
+use Rattle.std.specs.Prelude.{◌≡◌, ℕ, ◌+◌, ◌≤◌, List, [], ◌∷◌, length, take, Bool, if◌then◌else◌, MatchBool}
 use Rattle.files_core.specs.Files as files
 use Rattle.files_core.specs.Files.{FileDeed, file}
 use Rattle.window_core.specs.Window as window

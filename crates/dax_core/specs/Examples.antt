@@ -1,5 +1,5 @@
 -- The cores of the tests.
-use Rattle.std.specs.Prelude.{◌≡◌, ℕ, length}
+use Rattle.std.specs.Prelude.{◌≡◌, length}
 use Rattle.dax_core.specs.Core.{CoreState}
 
 -- two ranges and one file

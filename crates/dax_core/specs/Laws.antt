@@ -1,9 +1,8 @@
 -- What holds of the core under every schedule, and of its halves.
-use Rattle.std.specs.Prelude.{◌≡◌, ◌↔◌, ℕ, ◌<◌, ◌≤◌, List, All, length}
+use Rattle.std.specs.Prelude.{◌≡◌, ◌↔◌, ℕ, ◌≤◌, List, All}
 use Rattle.plain_file.specs.declared.operations.First.{First}
 use Rattle.plain_file.specs.File.{max_file}
 use Rattle.range_tree.specs.Trees.{max_ranges}
-use Rattle.files_core.specs.Files as files
 use Rattle.files_core.specs.Files.{FileDeed}
 use Rattle.files_core.specs.Good.{GoodFiles}
 use Rattle.window_core.specs.Window as window

@@ -32,10 +32,9 @@ fn push(events: &mut List<GuestEvent>, event: Event) -> Result<(), Memory> {
     events.push(GuestEvent { guest: 0, event })
 }
 
-// The range is taken, and settled at the chunk for reading.
-fn push_placing(events: &mut List<GuestEvent>, reading: &Reading) -> Result<(), Memory> {
+// The range, which the guest moves, is settled at the chunk for reading.
+fn push_settling(events: &mut List<GuestEvent>, reading: &Reading) -> Result<(), Memory> {
     let Reading { chunk, range, .. } = *reading;
-    push(events, Event::Take { range })?;
     let to = Some(Target {
         file: 0,
         chunk,
@@ -66,14 +65,29 @@ fn push_turn(events: &mut List<GuestEvent>, reading: &Reading) -> Result<(), Mem
     push(events, Event::GiveTurn)
 }
 
-fn push_reading(events: &mut List<GuestEvent>, reading: &Reading) -> Result<(), Memory> {
+// The range is pinned under the tree, which is given back, and unpinned when the byte is read.
+fn push_use(events: &mut List<GuestEvent>, reading: &Reading) -> Result<(), Memory> {
     let range = reading.range;
-    push(events, Event::Enter { file: 0 })?;
-    push_placing(events, reading)?;
     push(events, Event::Pin { range })?;
     push(events, Event::Leave)?;
     push_turn(events, reading)?;
     push(events, Event::Unpin { range })
+}
+
+fn push_reading(events: &mut List<GuestEvent>, reading: &Reading) -> Result<(), Memory> {
+    let range = reading.range;
+    push(events, Event::Enter { file: 0 })?;
+    push(events, Event::Take { range })?;
+    push_settling(events, reading)?;
+    push_use(events, reading)
+}
+
+fn place(chunk: u32, range: u32) -> LogEntry {
+    LogEntry::Place {
+        chunk,
+        range,
+        mode: Mode::R,
+    }
 }
 
 // A core of two ranges, one guest, and one file of so many zeros.
@@ -96,21 +110,8 @@ fn runs_a_schedule_of_one_read(rt: HostRuntime) -> Result<(), Fail> {
     push(&mut events, Event::Look { range: 0 })?;
     push(&mut events, Event::Take { range: 0 })?;
     push(&mut events, Event::Enter { file: 0 })?;
-    let to = Some(Target {
-        file: 0,
-        chunk: 0,
-        mode: Mode::R,
-    });
-    push(&mut events, Event::SetMap { range: 0, to })?;
-    let settle = Event::SettleMapped {
-        chunk: 0,
-        mode: Mode::R,
-    };
-    push(&mut events, settle)?;
-    push(&mut events, Event::Pin { range: 0 })?;
-    push(&mut events, Event::Leave)?;
-    push_turn(&mut events, &reading)?;
-    push(&mut events, Event::Unpin { range: 0 })?;
+    push_settling(&mut events, &reading)?;
+    push_use(&mut events, &reading)?;
     assert_eq!(&rt; core.run_all(&events)?, 13);
     assert!(&rt; !core.step(0, &Event::Unpin { range: 0 })?);
     let mapped = RangeWord::Mapped {
@@ -121,21 +122,8 @@ fn runs_a_schedule_of_one_read(rt: HostRuntime) -> Result<(), Fail> {
     };
     assert_eq!(&rt; core.word(0), mapped);
     assert_eq!(&rt; core.history(0).len(), 1);
-    let placed = LogEntry::Place {
-        chunk: 0,
-        range: 0,
-        mode: Mode::R,
-    };
-    assert!(&rt; core.tree(0).log() == &[placed][..]);
+    assert!(&rt; core.tree(0).log() == &[place(0, 0)][..]);
     Ok(())
-}
-
-fn place(chunk: u32, range: u32) -> LogEntry {
-    LogEntry::Place {
-        chunk,
-        range,
-        mode: Mode::R,
-    }
 }
 
 // Three chunks are read through two ranges: the first one's range is taken for the third.

@@ -1,6 +1,6 @@
 -- Each deed keeps all files good.
-use Rattle.std.proofs.Common.{◌≡◌, ◌≢◌, ◌⊎◌, ℕ, ◌<◌, List, length, set, Option, Some, sym, ap, ◌∙◌, subst, ⊎_elim, inl, inr, arith, length-set}
-use Rattle.files_core.specs.Files.{FileState, no_file, file, Deed, take_turn, set_size, give_turn, lease, note_size, unlease, set_bar, clear_bar, May, made, Freely, FileDeed, Allowed, after}
+use Rattle.std.proofs.Common.{◌≡◌, ◌≢◌, ◌⊎◌, ℕ, ◌<◌, List, length, set, Option, Some, sym, ap, ◌∙◌, subst, ⊎_elim, inl, inr, arith, length-set, ◌≤◌, IfSome}
+use Rattle.files_core.specs.Files.{FileState, no_file, file, Deed, take_turn, set_size, give_turn, lease, note_size, unlease, set_bar, clear_bar, May, made, Freely, FileDeed, Allowed, after, row}
 use Rattle.files_core.specs.Good.{GoodFile, GoodFiles}
 use Rattle.files_core.proofs.Places.{at_put}
 use Rattle.files_core.proofs.Keeps.{same_guest, not_none, file_keeps}
@@ -48,3 +48,6 @@ module _ (guests : ℕ) (cs : List FileState) (g : ℕ) (l : g < guests) (good :
     one_turn = alone_put (λ x. x.turn) cs d.at c a.known (turn_new d.at d.deed a.may a.freely) good.one_turn;
     one_bar = alone_put (λ x. x.bar) cs d.at c a.known (bar_new d.at d.deed a.may a.freely) good.one_bar;
   }
+
+pub lease_holds : (guests g f z : ℕ) (cs : List FileState) → g < guests → f < length cs → GoodFiles guests cs → (row (file cs f) g).noted ≡ Some z → z ≤ (file cs f).size
+lease_holds guests g f z cs l near good is = (subst (λ (o : Option ℕ). IfSome o (λ x. (x ≤ (file cs f).size) × (0 < (row (file cs f) g).leases))) is ((good.files_ok f near).rows_ok g l).noted).0

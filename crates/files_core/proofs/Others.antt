@@ -1,11 +1,11 @@
 -- Whatever a guest does, each other is shown the same.
-use Rattle.std.proofs.Common.{◌≡◌, ◌≢◌, ℕ, ◌<◌, ◌≤◌, ◌==◌, List, [], ◌∷◌, ◌++◌, map, take, length, Bool, true, false, cond, Option, Some, None, refl, sym, ap, ◌∙◌, get_or-set_other, ne_eqb}
+use Rattle.std.proofs.Common.{◌≡◌, ◌≢◌, ℕ, ◌<◌, ◌≤◌, List, [], ◌∷◌, take, length, Bool, true, false, cond, Option, Some, None, refl, sym, ap, ◌∙◌, get_or-set_other, ne_eqb}
 use lib.Seq.{map-set_same}
 use Rattle.std.proofs.lemmas.List.{take-append-le}
 use Rattle.plain_file.specs.declared.operations.Entry.{Entry}
 use Rattle.files_core.specs.Files.{Row, FileState, blank, row, no_file, file, with_entry, whole, with_row, entered, seen_to, leased, noted, unleased, Deed, take_turn, set_size, give_turn, lease, note_size, unlease, set_bar, clear_bar, May, made, FileDeed, Allowed, after}
 use Rattle.files_core.specs.Good.{GoodFile, GoodFiles}
-use Rattle.files_core.specs.Shown.{Shown, is_guest, shown_of, shown}
+use Rattle.files_core.specs.Shown.{is_guest, shown_of, shown}
 
 take_with : (n : ℕ) (h : List Entry) (o : Option Entry) → n ≤ length h → take n (with_entry h o) ≡ take n h
 take_with n h None l = refl

@@ -1,5 +1,5 @@
 -- What is found in the window.
-use Rattle.std.proofs.Common.{◌≡◌, ◌≢◌, ℕ, zero, suc, ◌<◌, ◌≤◌, List, [], ◌∷◌, length, take, get_or, Bool, true, false, cond, Option, Some, None, inl, inr, refl, subst, sym, ap, ◌∙◌, arith, eq-eqb}
+use Rattle.std.proofs.Common.{◌≡◌, ◌≢◌, ℕ, zero, suc, ◌<◌, ◌≤◌, List, [], ◌∷◌, length, take, get_or, Bool, true, false, cond, Option, Some, None, inl, inr, refl, subst, sym, ap, ◌∙◌, arith, eq-eqb, slice_get}
 use Rattle.std.specs.Prelude.{is_some, MatchOption}
 use Rattle.std.specs.List.{remove}
 use Rattle.window_core.specs.declared.states.RangeState.TheVariants as ranges
@@ -9,8 +9,8 @@ use Rattle.page_map.specs.declared.ranges.Placed.{Placed}
 use Rattle.page_map.specs.declared.ranges.Target.{Target}
 use Rattle.window_core.specs.declared.states.Pin.{Pin}
 use Rattle.page_map.specs.Logs.{is_writable, placed_at, slot_in, slots_of, slots_from}
-use Rattle.window_core.specs.Good.{IsGood}
-use Rattle.window_core.specs.Window.{on_range, pins_on, unpinned, Side, Window, no_side, state, side, Still, Treeless, Deed, take_mapped, Allowed, Did, DidTake, IsTake, IsThere, IsNowhere, IsUpgrade, IsUnsettled, MayRaise, MaySettle, settle_mapped, placed, HasTree, upgrade, target, target_of}
+use Rattle.window_core.specs.Good.{IsGood, GoodWindow, MapsTo}
+use Rattle.window_core.specs.Window.{on_range, pins_on, unpinned, Side, Window, no_side, state, side, Still, Treeless, Deed, take_mapped, Allowed, Did, DidTake, IsTake, IsThere, IsNowhere, IsUpgrade, IsUnsettled, MayRaise, MaySettle, settle_mapped, placed, HasTree, upgrade, target, target_of, pins}
 use Rattle.window_core.proofs.Deeds.{one_on}
 use Rattle.window_core.proofs.Places.{within}
 use Rattle.window_core.proofs.Placing.{none_some, some_same, range_free}
@@ -114,3 +114,8 @@ module _ (h : Window) (good : IsGood h) (g r : ℕ) (moving : state h r ≡ rang
 
 pub still_unsettled : (h : Window) (g c : ℕ) (m : Mode) → Still h g → IsUnsettled h g c m
 still_unsettled h g c m still r f a = still r a.0
+
+-- ---- pins
+
+pub pin_holds : (guests g k : ℕ) (h : Window) (p : Pin) → GoodWindow guests h → slice_get (pins h g) k ≡ Some p → MapsTo h p.range p.file p.chunk p.mode
+pin_holds guests g k h p good at = let ok = good.pins_ok g k p at in let m = good.mapped_there p.range p.file p.chunk ok.mode ok.state_is in (m.0, m.1, (λ w. m.2 (ok.enough w)))

@@ -5,8 +5,9 @@ use Rattle.page_map.specs.declared.ranges.LogEntry.{LogEntry}
 use Rattle.page_map.specs.declared.ranges.Placed.{Placed}
 use Rattle.page_map.specs.Logs.{live, writable, is_writable, placed_at, sound}
 use Rattle.range_tree.specs.Trees.{max_ranges, place_entry}
-use Rattle.window_core.specs.Window.{Window, side, Deed, Allowed, after, new_window}
-use Rattle.window_core.specs.Good.{GoodWindow}
+use Rattle.window_core.specs.Window.{Window, side, pins, Deed, Allowed, after, new_window}
+use Rattle.window_core.specs.declared.states.Pin.{Pin}
+use Rattle.window_core.specs.Good.{GoodWindow, MapsTo}
 
 -- the second list begins with the first
 abbrev pub Begins : {A : Type 0} → List A → List A → Type 0
@@ -27,6 +28,10 @@ LogsGrow = (g f : ℕ) (h : Window) (d : Deed) → Allowed h g d → Begins (sid
 -- and the numbers of ranges and of files stay
 abbrev pub SizesStay : Type 0
 SizesStay = (g : ℕ) (h : Window) (d : Deed) → (length (after h g d).states ≡ length h.states) × (length (after h g d).sides ≡ length h.sides)
+
+-- While a guest has a pin, its range's pages are those of the pin's file and chunk, with at least the pin's mode.
+abbrev pub PinsHold : Type 0
+PinsHold = (guests g k : ℕ) (h : Window) (p : Pin) → GoodWindow guests h → slice_get (pins h g) k ≡ Some p → MapsTo h p.range p.file p.chunk p.mode
 
 -- What is placed at a log's end is what the entry of its placement placed, and that is live there; it may be written
 -- exactly where it is writable there.

@@ -1,5 +1,5 @@
 use Rattle.files_core.proofs.Starts.{files_start}
-use Rattle.files_core.proofs.AllKeep.{files_keep}
+use Rattle.files_core.proofs.AllKeep.{files_keep, lease_holds}
 use Rattle.files_core.proofs.Others.{others_see}
 use Rattle.files_core.proofs.Grows.{files_grow}
 use Rattle.files_core.proofs.laws.files_core_laws.Goals as goal
@@ -15,3 +15,6 @@ returns-clause-histories c = λ g f cs d a. files_grow cs g d a.known f
 
 pub returns-clause-others : goal.returns-clause-others
 returns-clause-others c = others_see
+
+pub returns-clause-leases : goal.returns-clause-leases
+returns-clause-leases c = lease_holds

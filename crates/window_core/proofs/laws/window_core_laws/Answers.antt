@@ -3,6 +3,7 @@ use Rattle.window_core.proofs.Deeds.{window_keeps}
 use Rattle.window_core.proofs.Grows.{logs_grow, sizes_stay}
 use Rattle.window_core.proofs.Others.{others_see}
 use Rattle.window_core.proofs.Exact.{live_placed}
+use Rattle.window_core.proofs.Reading.{pin_holds}
 use Rattle.window_core.proofs.Lives.{placed_lives}
 use Rattle.window_core.proofs.laws.window_core_laws.Goals as goal
 
@@ -26,3 +27,6 @@ returns-clause-others c = λ guests g other h d ne good a. others_see guests h g
 
 pub returns-clause-live : goal.returns-clause-live
 returns-clause-live c = live_placed
+
+pub returns-clause-pins : goal.returns-clause-pins
+returns-clause-pins c = pin_holds

@@ -1,4 +1,4 @@
-use Rattle.std.proofs.Common.{◌≡◌, ◌∙◌, Bool, true, List, ap, sym, subst, arith}
+use Rattle.std.proofs.Common.{◌≡◌, Bool, true, sym, subst}
 use Rattle.std.specs.Prelude.{MatchResult}
 use Rattle.window_core.specs.Machine.{window_of}
 use Rattle.window_core.specs.Window.{Window}

@@ -1,9 +1,9 @@
-use Rattle.std.proofs.Common.{◌≡◌, ◌∙◌, List, ap, sym, subst, length, arith}
+use Rattle.std.proofs.Common.{◌≡◌, ◌∙◌, List, ap, sym, subst, length}
 use Rattle.plain_file.specs.declared.operations.First.{First}
 use Rattle.files_core.specs.Files.{FileState, new_files}
 use Rattle.window_core.specs.Machine.{window_of}
 use Rattle.window_core.specs.Window.{Window, new_window}
-use Rattle.dax_core.specs.Core.{CoreState, Good}
+use Rattle.dax_core.specs.Core.{Good}
 use Rattle.dax_core.proofs.Stepping.{start_good}
 use Rattle.dax_core.proofs.machine.Core.new.Goals as goal
 
