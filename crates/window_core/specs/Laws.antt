@@ -3,7 +3,8 @@ use Rattle.std.specs.Prelude.{◌≡◌, ℕ, ◌<◌, ◌≤◌, List, ◌++◌
 use Rattle.page_map.specs.declared.pages.Mode.{Mode}
 use Rattle.page_map.specs.declared.ranges.LogEntry.{LogEntry}
 use Rattle.page_map.specs.declared.ranges.Placed.{Placed}
-use Rattle.page_map.specs.Logs.{live, writable, is_writable, placed_at, sound}
+use Rattle.page_map.specs.Logs.{live, placed_at, sound}
+use Rattle.range_tree.specs.Logs.{IsLivePlace}
 use Rattle.range_tree.specs.Trees.{max_ranges, place_entry}
 use Rattle.window_core.specs.Window.{Window, side, pins, Deed, Allowed, after, new_window}
 use Rattle.window_core.specs.declared.states.Pin.{Pin}
@@ -33,16 +34,10 @@ SizesStay = (g : ℕ) (h : Window) (d : Deed) → (length (after h g d).states �
 abbrev pub PinsHold : Type 0
 PinsHold = (guests g k : ℕ) (h : Window) (p : Pin) → GoodWindow guests h → slice_get (pins h g) k ≡ Some p → MapsTo h p.range p.file p.chunk p.mode
 
--- What is placed at a log's end is what the entry of its placement placed, and that is live there; it may be written
+-- What is placed at a sound log's end is what the entry of its placement placed, and that is live there; it may be written
 -- exactly where it is writable there.
-pub record IsLivePlace (log : List LogEntry) (c : ℕ) (p : Placed) : Type 0 where
-  pub first : Mode
-  pub place : slice_get log p.entry ≡ Some (place_entry c p.range first)
-  pub lives : IsTrue (live log p.entry (length log))
-  pub mode : is_writable p.mode ≡ writable log p.entry (length log)
-
 abbrev pub PlacedIsLive : Type 0
-PlacedIsLive = (log : List LogEntry) (c : ℕ) (p : Placed) → placed_at log c ≡ Some p → IsLivePlace log c p
+PlacedIsLive = (ranges : ℕ) (log : List LogEntry) (c : ℕ) (p : Placed) → IsTrue (sound ranges log) → placed_at log c ≡ Some p → IsLivePlace log c p
 
 -- and what is live at a sound log's end is placed there
 abbrev pub IsPlacedBy : List LogEntry → ℕ → ℕ → ℕ → Type 0
