@@ -13,3 +13,4 @@ pub mod Whole
 pub mod Moves
 pub mod Living
 pub mod Setting
+pub mod InTree
