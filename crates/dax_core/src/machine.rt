@@ -1,4 +1,4 @@
-ghost use Rattle.std.specs.Prelude.{◌≡◌, ◌≤◌, ◌<◌, ◌⊎◌, All, IfOk, MatchResult, OnOk, length};
+ghost use Rattle.std.specs.Prelude.{◌≡◌, ◌≤◌, ◌<◌, All, IfOk, MatchResult, length};
 ghost use Rattle.plain_file.specs.File.{max_file};
 ghost use Rattle.range_tree.specs.Trees.{max_ranges};
 ghost use Rattle.window_core.specs.Good.{max_guests};
@@ -37,8 +37,8 @@ impl Model for Core {
 }
 
 impl Core {
-    /// A core of so many ranges and guests, in whose files with these first contents nothing was done yet. All ranges
-    /// are free. `Memory` comes where an allocation was refused.
+    /// A core of so many ranges (at most 256) and guests (at most 34), in whose files (at most 64) with these first
+    /// contents nothing was done yet. All ranges are free. `Memory` comes where an allocation was refused.
     pub fn new(
         alloc: Global,
         ranges: u32,
@@ -66,6 +66,7 @@ impl Core {
         let _ = &self.window;
     }
 
+    // Has each half do the event. A half does none of the other's, so at most one of them does it.
     fn do_event(&mut self, guest: u32, event: &Event) -> Result<bool, Memory>
         ensures { MatchResult result (λ done. Stepped done self.old guest event.now self.new) (λ _. self.new ≡ self.old) }
     {

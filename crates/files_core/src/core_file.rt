@@ -1,4 +1,4 @@
-ghost use Rattle.std.specs.Prelude.{◌≡◌, ◌≢◌, ◌≤◌, ◌<◌, ℕ, nat_le, length, replicate, IfOk, OnErr, OnOk, Some, MatchBool, MatchResult};
+ghost use Rattle.std.specs.Prelude.{◌≡◌, ◌≢◌, ◌≤◌, ◌<◌, nat_le, length, replicate, IfOk, OnErr, OnOk, Some, MatchBool, MatchResult};
 ghost use Rattle.plain_file.specs.File.{max_file, reach};
 ghost use Rattle.files_core.specs.Files.{DidHere, MaySet, blank, clear_bar, give_turn, lease, leases, made, new_file, note_size, set_bar, set_size, sized, take_turn, unlease};
 

@@ -1,5 +1,4 @@
-ghost use Rattle.std.specs.Prelude.{◌≡◌, ◌≢◌, ◌≤◌, ◌<◌, ℕ, length, replicate, All, IfOk, MatchOption, MatchResult, OnErr, OnOk, Some};
-ghost use Rattle.plain_file.specs.File.{max_file};
+ghost use Rattle.std.specs.Prelude.{◌≡◌, ◌<◌, length, IfOk, MatchOption, MatchResult, Some};
 ghost use Rattle.files_core.specs.Files.{Barless, Did, DidOne, Turnless, clear_bar, file, give_turn, lease, new_files, note_size, on, set_bar, set_size, take_turn, unlease};
 ghost use Rattle.files_core.specs.Good.{IsGuest};
 

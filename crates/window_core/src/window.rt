@@ -1,4 +1,4 @@
-ghost use Rattle.std.specs.Prelude.{◌≡◌, ◌≢◌, ◌≤◌, ◌<◌, ◌+◌, ◌*◌, ℕ, [], length, replicate, IfOk, None, Some, MatchBool, MatchOption, MatchResult};
+ghost use Rattle.std.specs.Prelude.{◌≡◌, ◌≢◌, ◌≤◌, ◌<◌, ℕ, [], length, replicate, IfOk, None, Some, MatchBool, MatchOption, MatchResult};
 ghost use Rattle.page_map.specs.declared.pages.Mode.TheVariants as modes;
 ghost use Rattle.window_core.specs.Window.{Allowed, Did, DidTake, HasTree, InTree, IsMapped, IsNowhere, IsTarget, IsThere, IsEnter, IsLeave, IsLook, IsPin, IsSetMap, IsSettleFree, IsSettleMapped, IsTake, IsUnpin, IsUnsettled, IsUpgrade, MayRaise, MaySettle, Still, Treeless, pin_count, new_side, new_window, pins, settle_mapped, side, state, word_at};
 ghost use Rattle.window_core.specs.Machine.{window_of};
