@@ -10,11 +10,10 @@ use crate::responding::{Responder, end_stream, respond};
 use plain_file::Memory;
 use program_io::{Sink, Source, Status};
 use std::alloc::Global;
-use std::mem::forget;
 
 /// Answers a stream from its header on to its end. The answers to the whole frames that were read are
 /// written before more is read, and no more than one frame and one read of 65,536 bytes is kept,
-/// whatever the stream's length. What the responder holds at the end isn't given back: the program ends then.
+/// whatever the stream's length.
 ///
 /// The status is that of the stream's end, or a failure: `Ends` says what was written. No more is read
 /// than 268,435,456 bytes and one read.
@@ -30,11 +29,7 @@ pub fn answer_stream<R: Responder + Drop, S: Source, K: Sink>(
     let mut pending = Pending::new(alloc);
     match read_header(&mut pending, source) {
         Ok(Some(pages)) => match R::start(alloc, pages) {
-            Ok(mut responder) => {
-                let status = respond(alloc, &mut responder, &mut pending, source, sink);
-                forget(responder);
-                status
-            }
+            Ok(mut responder) => respond(alloc, &mut responder, &mut pending, source, sink),
             Err(Memory) => Status::Memory,
         },
         Ok(None) => end_stream::<R, K>(

@@ -21,17 +21,17 @@ returns-in-Ok-clause-ends g c =
     let p = c.read_header.new.pending in
     let pages = c.in-Ok-Some.pages in
     let headed = subst (λ (o : Option ℕ). IfSome o (IsHeaded (left c.args.source.now) (left c.read_header.new.source) p)) c.in-Ok-Some.field-0-is c.in-Ok-Some.ensures.headed in
-    let answered : Ends (course_from (starting pages) p) ending (left c.read_header.new.source) (left c.respond-status.new.source) (taken c.args.sink.now) (taken c.respond-status.new.sink) (reads c.read_header.new.source) (reads c.respond-status.new.source) (writes c.args.sink.now) (writes c.respond-status.new.sink) c.respond-status.result =
-    subst (λ (says : List Frame → List ℕ). Ends (course_from says p) ending (left c.read_header.new.source) (left c.respond-status.new.source) (taken c.args.sink.now) (taken c.respond-status.new.sink) (reads c.read_header.new.source) (reads c.respond-status.new.source) (writes c.args.sink.now) (writes c.respond-status.new.sink) c.respond-status.result) c.in-Ok.ensures c.respond-status.ensures.ends in
-    ends_later (course_by starting) (course_from (starting pages) p) ending (left c.args.source.now) (left c.read_header.new.source) (left c.respond-status.new.source) (taken c.args.sink.now) (taken c.args.sink.now) (taken c.respond-status.new.sink)
-    (reads c.args.source.now) (reads c.read_header.new.source) (reads c.respond-status.new.source) (writes c.args.sink.now) (writes c.args.sink.now) (writes c.respond-status.new.sink) c.respond-status.result
+    let answered : Ends (course_from (starting pages) p) ending (left c.read_header.new.source) (left c.respond.new.source) (taken c.args.sink.now) (taken c.respond.new.sink) (reads c.read_header.new.source) (reads c.respond.new.source) (writes c.args.sink.now) (writes c.respond.new.sink) c.respond.result =
+    subst (λ (says : List Frame → List ℕ). Ends (course_from says p) ending (left c.read_header.new.source) (left c.respond.new.source) (taken c.args.sink.now) (taken c.respond.new.sink) (reads c.read_header.new.source) (reads c.respond.new.source) (writes c.args.sink.now) (writes c.respond.new.sink) c.respond.result) c.in-Ok.ensures c.respond.ensures.ends in
+    ends_later (course_by starting) (course_from (starting pages) p) ending (left c.args.source.now) (left c.read_header.new.source) (left c.respond.new.source) (taken c.args.sink.now) (taken c.args.sink.now) (taken c.respond.new.sink)
+    (reads c.args.source.now) (reads c.read_header.new.source) (reads c.respond.new.source) (writes c.args.sink.now) (writes c.args.sink.now) (writes c.respond.new.sink) c.respond.result
     (headed_went starting (left c.args.source.now) (left c.read_header.new.source) (taken c.args.sink.now) p pages headed) c.read_header.ensures.later (omega arith) answered
 
 pub returns-in-Ok-clause-most : goal.returns-in-Ok-clause-most
 returns-in-Ok-clause-most g c =
     let left = g.S.Source.left in
-    most_of _ c.respond-status.new.pending (left c.args.source.now) (left c.respond-status.new.source) refl
-    (took_more _ c.read_header.new.pending c.respond-status.new.pending (left c.args.source.now) (left c.read_header.new.source) (left c.respond-status.new.source) c.read_header.ensures.took c.respond-status.ensures.took)
+    most_of _ c.respond.new.pending (left c.args.source.now) (left c.respond.new.source) refl
+    (took_more _ c.read_header.new.pending c.respond.new.pending (left c.args.source.now) (left c.read_header.new.source) (left c.respond.new.source) c.read_header.ensures.took c.respond.ensures.took)
 
 pub returns-in-Ok-None-clause-ends : goal.returns-in-Ok-None-clause-ends
 returns-in-Ok-None-clause-ends g c =
