@@ -12,7 +12,6 @@
 #![tactic(auto)]
 
 mod boards;
-mod liveness;
 mod lives;
 mod plain;
 #[cfg(test)]
@@ -25,7 +24,6 @@ mod trees;
 mod unsound;
 
 pub use boards::RangeBoard;
-pub use liveness::is_live;
 pub use lives::Lives;
 pub use page_map::{LogEntry, Look, Placed, RangeWord, Target};
 pub use plain::PlainRanges;

@@ -119,7 +119,9 @@ impl<'a> Lives<'a> {
         })
     }
 
-    /// As [`is_live`](crate::is_live) of the log, without a walk.
+    /// Whether the entry places this chunk, and is live when the log has `upto` entries: it is one of them, and
+    /// none of those behind it removes its range. To `write` it was placed for that, or one of them upgrades
+    /// its range. It takes the same time for every entry.
     #[tactic(auto, using(crate::proofs::Live::live_below, crate::proofs::Live::live_long))]
     pub fn is_live(&self, write: bool, chunk: u64, entry: u64, upto: u64) -> bool
         ensures { result ≡ is_live write self.now.log.now chunk entry upto }

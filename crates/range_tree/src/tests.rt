@@ -102,7 +102,6 @@ fn tells_what_is_live(rt: HostRuntime) -> Result<(), Fail> {
     for (chunk, entry, upto, reads, writes) in &table {
         assert_eq!(&rt; lives.is_live(false, *chunk, *entry, *upto), *reads);
         assert_eq!(&rt; lives.is_live(true, *chunk, *entry, *upto), *writes);
-        assert_eq!(&rt; is_live(true, &log, *chunk, *entry, *upto), *writes);
     }
     Ok(())
 }

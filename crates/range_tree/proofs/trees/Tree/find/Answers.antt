@@ -1,4 +1,4 @@
-use Rattle.std.proofs.Common.{◌≡◌, sym, subst, None, Some, Option, rules}
+use Rattle.std.proofs.Common.{◌≡◌, sym, subst, Some, Option, rules}
 use Rattle.page_map.specs.declared.ranges.Placed.{Placed}
 use Rattle.page_map.specs.Logs.{placed_at}
 use Rattle.range_tree.specs.Logs.{Finds}
