@@ -1,0 +1,4 @@
+pub mod Keeping
+pub mod Searching
+pub mod Asking
+pub mod Window

@@ -1,0 +1,3 @@
+pub mod Stands
+pub mod Looks
+pub mod Reclaims
