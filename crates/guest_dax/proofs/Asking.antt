@@ -33,15 +33,12 @@ use Rattle.guest_wire.specs.declared.wires.WireError.{WireError}
 use Rattle.guest_wire.specs.declared.wires.WireError.TheVariants as errors
 use Rattle.guest_wire.specs.declared.wires.WireRefusal.{WireRefusal}
 use Rattle.guest_wire.specs.declared.wires.WireRefusal.TheVariants as refusals
+use Rattle.guest_dax.specs.Causes.{SaysDone}
 
 -- each daemon carries the request out, and it names no file
 pub record IsOfWindow (m : Message) : Type 0 where
   pub taken_by : is_data m.body ≡ true
   pub off_files : is_on_file m.body ≡ false
-
--- the answer has no value in it
-abbrev pub SaysDone : Unit {0} → Reply → Type 0
-SaysDone u reply = reply ≡ replies.Done
 
 -- ---- the step of either daemon
 

@@ -2,3 +2,5 @@ pub mod Keeping
 pub mod Searching
 pub mod Asking
 pub mod Window
+pub mod Walking
+pub mod Requesting

@@ -7,7 +7,7 @@ use Rattle.page_map.specs.declared.pages.Mode.{Mode}
 use Rattle.page_map.specs.declared.pages.Mode.TheVariants as modes
 use Rattle.page_map.specs.Window.{page_size, range_size}
 use Rattle.page_map.specs.Plain.{range_pages}
-use Rattle.page_map.specs.Board.{may_set, may_clear, is_whole, painted, wiped}
+use Rattle.page_map.specs.Board.{MapView, may_set, may_clear, is_moved, is_whole, painted, wiped}
 use Rattle.fuse_wire.specs.Layout.{FitsParts}
 use Rattle.fuse_codec.specs.Grammar.{kind_of}
 use Rattle.fuse_codec.specs.Opcodes.{reply_form}
@@ -87,3 +87,7 @@ remove_succeeds w node range can = record {
   formed = refl;
   fits = tt;
 }
+
+pub may_clear-moved : (v : MapView) (range : ℕ) → v.hands.moves ≡ Some range → may_clear v (range_size * range) range_size ≡ true
+unfolding may_clear is_moved
+may_clear-moved v range e = rw e (grind (arith, common_steps))

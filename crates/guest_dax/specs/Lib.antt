@@ -1,3 +1,4 @@
 pub mod Stands
 pub mod Looks
 pub mod Reclaims
+pub mod Causes

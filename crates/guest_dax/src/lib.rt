@@ -2,6 +2,9 @@
 #![tactic(auto)]
 
 mod attempts;
+mod dax;
 mod refusals;
+mod unmaps;
 
+pub use dax::Dax;
 pub use refusals::DaxRefusal;
