@@ -4,3 +4,5 @@ pub mod Asking
 pub mod Window
 pub mod Walking
 pub mod Requesting
+pub mod Rounds
+pub mod Forgetting

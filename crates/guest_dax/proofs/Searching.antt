@@ -99,12 +99,15 @@ Attempted-took v range w t seen = (
 pub Attempted-blocked : (v : MapView) (range : ℕ) (word : RangeWord) (w : MapView) → range < length v.ranges.looks → v.hands.moves ≡ None → Looks v range word w → is_blocked word ≡ true → Attempted v range attempts.Blocked w
 Attempted-blocked v range word w within none l b = (
   Searches-look v range word w l,
-  (ap (λ (m : MapView). m.hands) l.noted, record {
-    noted = record { word = word; own = pins_on v range };
-    at = ap (λ (m : MapView). look_at m range) l.noted ∙ look_at-looked v range word within;
-    own = refl;
-    blocks = Blocks-seen v range word none l.seen b;
-  }),
+  (
+    ap (λ (m : MapView). m.hands) l.noted,
+    record {
+      noted = record { word = word; own = pins_on v range };
+      at = ap (λ (m : MapView). look_at m range) l.noted ∙ look_at-looked v range word within;
+      own = refl;
+      blocks = Blocks-seen v range word none l.seen b;
+    },
+  ),
 )
 
 is-some : {X : Type 0} (o : Option X) (x : X) → o ≡ Some x → IsSome o
@@ -144,12 +147,15 @@ IsBlocked-same u v w x range k e l b = record {
 Comes-after : (u v : MapView) (range : ℕ) (attempt : Attempt) (w : MapView) → Searches u range v → v.hands ≡ u.hands → Comes v range attempt w → Comes u range attempt w
 Comes-after u v range attempts.Took w s e (h, free, seen) = (h ∙ ap (λ (k : Hands). record k { moves = Some range }) e, ap (λ (k : Hands). get_or k.pins range 0) (sym e) ∙ free, seen)
 Comes-after u v range (attempts.Removed file) w s e (h, within, free, seen) = (h ∙ ap (λ (k : Hands). record k { tree = Some file; moves = Some range }) e, subst (λ n. file < n) s.keeps.files within, ap (λ (k : Hands). get_or k.pins range 0) (sym e) ∙ free, seen)
-Comes-after u v range attempts.Blocked w s e (h, b) = (h ∙ e, record {
-  noted = b.noted;
-  at = b.at;
-  own = b.own ∙ ap (λ (k : Hands). get_or k.pins range 0) e;
-  blocks = blocks-same u v b.noted.own b.noted.word s.keeps b.blocks;
-})
+Comes-after u v range attempts.Blocked w s e (h, b) = (
+  h ∙ e,
+  record {
+    noted = b.noted;
+    at = b.at;
+    own = b.own ∙ ap (λ (k : Hands). get_or k.pins range 0) e;
+    blocks = blocks-same u v b.noted.own b.noted.word s.keeps b.blocks;
+  },
+)
 Comes-after u v range attempts.Again w s e (h, b) = (h ∙ e, b)
 
 pub Attempted-after : (u v : MapView) (range : ℕ) (attempt : Attempt) (w : MapView) → Searches u range v → v.hands ≡ u.hands → Attempted v range attempt w → Attempted u range attempt w
@@ -284,7 +290,6 @@ eqb-same n = grind (arith, common_steps)
 pub mapped-file : (v : MapView) (range file chunk : ℕ) (mode : Mode) (pins : ℕ) (w : MapView) → Looks v range (words.Mapped file chunk mode pins) w → file < length w.ranges.logs
 unfolding is_of_file
 mapped-file v range file chunk mode pins w l = subst (λ (m : MapView). file < length m.ranges.logs) (sym l.noted) (names-file v range (words.Mapped file chunk mode pins) file l.seen (eqb-same file))
-
 
 pub had-tree : (tree : Option ℕ) (file : ℕ) → tree ≡ Some file → IsSome tree
 had-tree tree file e = subst (λ (t : Option ℕ). IsSome t) (sym e) refl

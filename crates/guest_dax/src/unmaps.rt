@@ -58,7 +58,9 @@ where
     {
         self.ranges.sound_ranges();
         let node = node_of(&self.refs, file);
-        let sent = self.driver.remove(rt, alloc, node, range, &mut self.files, &mut self.ranges);
+        let sent = self
+            .driver
+            .remove(rt, alloc, node, range, &mut self.files, &mut self.ranges);
         match sent {
             Ok(()) => {
                 self.ranges.leave();

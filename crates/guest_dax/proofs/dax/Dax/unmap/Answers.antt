@@ -49,8 +49,7 @@ returns-in-Err-clause-unmaps g c =
     let u = stand (g.W.Wire.wire c.remove-sent.new.self.wire) new.files (g.R.MapBoard.map c.leave-in-Err.new.self) in
     let asks = Asks-remove g.W.Wire.wire g.W.Wire.gives c.args.self.now.driver.wire old c.args.self.now.refs c.args.self.now.driver.unique c.node_of-node.result c.args.range (Err c.in-Err.refusal) c.remove-sent.new.self.wire new c.in-Err.ensures.answer c.requires.stands c.requires.range c.sound_ranges.ensures.pages c.requires.moves in
     let f = c.settle_free.ensures.rest in
-    let p = c.remove-sent.ensures.boards.map in
-    (
+    let p = c.remove-sent.ensures.boards.map in (
       hands-leave _ _ c.leave-in-Err.ensures ∙ ap (λ (m : MapView). record m.hands { tree = None }) f ∙ ap (λ (h : Hands). record h { tree = None; moves = None }) p.hands,
       looks-leave _ _ c.leave-in-Err.ensures ∙ ap (λ (m : MapView). m.ranges.looks) f ∙ ap (λ (r : RangesView). r.looks) p.ranges,
       Caused-asked g.W.Wire.wire g.W.Wire.gives c.args.self.now.driver.wire old (message (next_number c.args.self.now.driver.unique) c.node_of-node.result (remove_request c.args.range)) (wiped v (range_size * c.args.range) range_size) c.in-Err.refusal c.remove-sent.new.self.wire new c.refusal_of.result s u refl refl asks c.refusal_of.ensures,
