@@ -6,3 +6,7 @@ pub mod Walking
 pub mod Requesting
 pub mod Rounds
 pub mod Forgetting
+pub mod Placing
+pub mod PinLaws
+pub mod Mapping
+pub mod Upgrading

@@ -38,3 +38,9 @@ IsCause wire gives before unique (refusals.Errno number) after now = IsAnswered 
 IsCause wire gives before unique (refusals.BadReply bytes) after now = IsAnswered wire gives before unique (Err (wires.BadReply bytes)) after now ⊎ IsReplied wire gives before unique bytes after now
 IsCause wire gives before unique refusals.WireFault after now = IsAnswered wire gives before unique (Err wires.WireFault) after now
 IsCause wire gives before unique refusals.Memory after now = Unit {0}
+
+-- the refusal of a request that succeeded, after which the window hasn't what was asked for: the bytes of its reply, or want of memory for them
+abbrev pub IsUndone : ℕ → DaxRefusal → Type 0
+IsUndone unique (refusals.BadReply bytes) = bytes ≡ clean_reply unique replies.Done
+IsUndone unique refusals.Memory = Unit {0}
+IsUndone unique e = ⊥

@@ -2,3 +2,4 @@ pub mod Stands
 pub mod Looks
 pub mod Reclaims
 pub mod Causes
+pub mod Pinning
