@@ -17,7 +17,7 @@ use Rattle.range_tree.specs.Ranges.{is_enough, range_count, pins_on, tree_of, up
 use Rattle.page_map.specs.Window.{range_size}
 use Rattle.plain_file.specs.declared.refusals.Memory.{Memory}
 use Rattle.guest_dax.specs.Stands.{Stand, KeepsMap, chunk_span}
-use Rattle.guest_dax.specs.Pinning.{MapsRest, IsEnoughPlaced, IsReadOnly, IsUpgraded, UpgradesChunk, MakesEnough}
+use Rattle.guest_dax.specs.Pinning.{MapsRest, IsEnoughPlaced, IsReadOnly, IsSomeReadOnly, IsUpgraded, UpgradesChunk, MakesEnough}
 use Rattle.guest_dax.specs.declared.refusals.DaxRefusal.{DaxRefusal}
 use Rattle.guest_dax.proofs.Keeping.{KeepsMap-same, Begins-log, length-log, KeepsMap-more}
 use Rattle.guest_dax.proofs.PinLaws.{tree-of}
@@ -161,3 +161,21 @@ settled-ok v chunk mode place w h = h
 pub settled-err : (v : MapView) (chunk : ℕ) (mode : Mode) (e : Memory) (w : MapView) → Settles v chunk mode (Err e) w → w ≡ v
 unfolding Settles
 settled-err v chunk mode e w h = h
+
+pub had-tree-kept : (v : MapView) (file : ℕ) → v.hands.tree ≡ Some file → IsSome v.hands.tree
+had-tree-kept v file e = subst (λ (t : Option ℕ). IsSome t) (sym e) refl
+
+pub not-enough-at : (v : MapView) (file chunk : ℕ) (mode : Mode) (found : Option Placed) (range entry : ℕ) → v.hands.tree ≡ Some file → found ≡ placed_at (log_at v (tree_of v)) chunk → mode ≡ modes.W → found ≡ Some (record { range = range; mode = modes.R; entry = entry }) → IsEnoughPlaced mode (placed_at (log_at v file) chunk) → ⊥
+not-enough-at v file chunk mode found range entry tree is m e enough = needs-not-enough mode found range entry m e (subst (λ (o : Option Placed). IsEnoughPlaced mode o) (sym (found-at v file chunk found tree is)) enough)
+
+-- what is placed for reading is found, in its range
+pub read-only-some : (v : MapView) (file chunk : ℕ) (found : Option Placed) → v.hands.tree ≡ Some file → found ≡ placed_at (log_at v (tree_of v)) chunk → IsSomeReadOnly (log_at v file) chunk → IsSome found
+read-only-some v file chunk found tree is (range, r) = subst (λ (o : Option Placed). IsSome o) (sym (found-at v file chunk found tree is ∙ r.placed)) refl
+
+same-range : (p q : Placed) → Some p ≡ Some q → q.range ≡ p.range
+same-range p q e = let k : p ≡ q = cc in ap (λ (x : Placed). x.range) (sym k)
+
+pub read-only-at : (v : MapView) (file chunk : ℕ) (found : Option Placed) (p : Placed) → v.hands.tree ≡ Some file → found ≡ placed_at (log_at v (tree_of v)) chunk → found ≡ Some p → IsSomeReadOnly (log_at v file) chunk → IsReadOnly (log_at v file) chunk p.range
+read-only-at v file chunk found p tree is e (range, r) =
+    let same : range ≡ p.range = same-range p (record { range = range; mode = modes.R; entry = r.entry }) (sym e ∙ found-at v file chunk found tree is ∙ r.placed) in
+    subst (λ (n : ℕ). IsReadOnly (log_at v file) chunk n) same r

@@ -36,6 +36,10 @@ pub record IsReadOnly (log : List LogEntry) (chunk range : ℕ) : Type 0 where
   pub entry : ℕ
   pub placed : placed_at log chunk ≡ Some (record { range = range; mode = modes.R; entry = entry })
 
+-- the same in some range
+abbrev pub IsSomeReadOnly : List LogEntry → ℕ → Type 0
+IsSomeReadOnly log chunk = (range : ℕ) × IsReadOnly log chunk range
+
 -- What `pin_chunk` answers and leaves. None comes exactly where the tree hadn't the chunk, and then nothing was sent.
 abbrev pub PinsChunk : Stand → ℕ → ℕ → Mode → Result (Option Pinned) DaxRefusal → Stand → Type 0
 PinsChunk old file chunk mode (Ok None) new = (new.map.hands ≡ old.map.hands) × (placed_at (log_at new.map file) chunk ≡ None)
