@@ -1,6 +1,6 @@
 -- What a board lets be set, upgrades, and places.
 use Rattle.std.proofs.Common.{◌≡◌, ◌≢◌, ◌∙◌, ap, sym, refl, subst, ℕ, ◌+◌, ◌-◌, ◌*◌, ◌/◌, ◌%◌, ◌<◌, ◌≤◌, ◌==◌, Bool, true, false, ◌&&◌, ◌||◌, not, nat_lt, nat_le, List, [], ◌∷◌, ◌++◌, zero, suc, length, map, get_or, slice_set, Option, None, Some, Result, Ok, Err, inl, inr, arith}
-use Rattle.std.specs.Prelude.{IsSome, ◌⊎◌}
+use Rattle.std.specs.Prelude.{IsSome, ◌⊎◌, unwrap_or}
 use Rattle.std.specs.List.{list_any, find}
 use Rattle.std.proofs.lemmas.Grind.{common_steps}
 use Rattle.page_map.specs.declared.pages.Mode.{Mode}
@@ -13,14 +13,17 @@ use Rattle.page_map.specs.declared.ranges.Target.{Target}
 use Rattle.page_map.specs.Logs.{Slot, is_in, is_of, upgraded, next_slots, slots_from, slots_of, slot_in, placed_of, placed_at, is_writable}
 use Rattle.std.specs.Option.{option_map}
 use Rattle.page_map.specs.Board.{MapView, Hands, RangesView, PlacedChunk, may_set, is_moved, is_range, is_at_chunk, is_chunk_of, placed_in, chunk_in, log_at}
-use Rattle.range_tree.specs.Ranges.{is_enough, range_count, pins_on, tree_of, upgraded_in, upgrade_of, with_more, CanUpgrade, IsMapped, IsRaisable, settled, moved_of, Becomes, Settles, IsSettled}
+use Rattle.range_tree.specs.Ranges.{Enters, is_enough, range_count, pins_on, tree_of, upgraded_in, upgrade_of, with_more, CanSettle, IsMapped, IsRaisable, settled, moved_of, Becomes, Settles, IsSettled}
 use Rattle.page_map.specs.Window.{range_size}
 use Rattle.plain_file.specs.declared.refusals.Memory.{Memory}
 use Rattle.guest_dax.specs.Stands.{Stand, KeepsMap, chunk_span}
 use Rattle.guest_dax.specs.Pinning.{MapsRest, IsEnoughPlaced, IsReadOnly, IsSomeReadOnly, IsUpgraded, UpgradesChunk, MakesEnough}
 use Rattle.guest_dax.specs.declared.refusals.DaxRefusal.{DaxRefusal}
 use Rattle.guest_dax.proofs.Keeping.{KeepsMap-same, Begins-log, length-log, KeepsMap-more}
+use Rattle.guest_dax.proofs.Searching.{had-tree}
 use Rattle.guest_dax.proofs.PinLaws.{tree-of}
+use Rattle.guest_dax.proofs.Placing.{placed-last}
+use Rattle.std.proofs.lemmas.List.{append-nil}
 
 at-chunk : (files file chunk range : ℕ) (mode : Mode) → file < files → chunk < 32 → is_at_chunk files (chunk_span file chunk range mode) ≡ true
 at-chunk files file chunk range mode within small = grind (arith, common_steps, within, small)
@@ -179,3 +182,60 @@ pub read-only-at : (v : MapView) (file chunk : ℕ) (found : Option Placed) (p :
 read-only-at v file chunk found p tree is e (range, r) =
     let same : range ≡ p.range = same-range p (record { range = range; mode = modes.R; entry = r.entry }) (sym e ∙ found-at v file chunk found tree is ∙ r.placed) in
     subst (λ (n : ℕ). IsReadOnly (log_at v file) chunk n) same r
+
+-- ---- placing
+
+-- where no other board moves ranges, the log is seen whole before
+log-set : (logs : List (List LogEntry)) (file : ℕ) → get_or (slice_set logs file (get_or logs file [] ++ [])) file [] ≡ get_or logs file []
+log-set [] file = refl
+log-set (l ∷ ls) zero = append-nil l
+log-set (l ∷ ls) (suc file) = log-set ls file
+
+pub enter-alone : (v : MapView) (file chunk : ℕ) (mode : Mode) (w : MapView) → Enters v file w → v.ranges.others ≡ false → IsEnoughPlaced mode (placed_at (log_at v file) chunk) → IsEnoughPlaced mode (placed_at (log_at w file) chunk)
+enter-alone v file chunk mode w h others enough =
+    let e : log_at w file ≡ log_at v file = ap (λ (m : MapView). log_at m file) h.becomes.rest ∙ ap (λ (more : List LogEntry). get_or (slice_set v.ranges.logs file (log_at v file ++ more)) file []) (h.alone others) ∙ log-set v.ranges.logs file in
+    subst (λ (l : List LogEntry). IsEnoughPlaced mode (placed_at l chunk)) (sym e) enough
+
+moved-is : (v : MapView) (range : ℕ) → v.hands.moves ≡ Some range → moved_of v ≡ range
+moved-is v range e = ap (λ (m : Option ℕ). unwrap_or m 0) e
+
+pub can-settle : (v : MapView) (file chunk range : ℕ) (mode : Mode) (w : MapView) → MapsRest v w → IsMapped w range (Some (record { file = file; chunk = chunk; mode = mode })) → v.hands.tree ≡ Some file → v.hands.moves ≡ Some range → chunk < 32 → placed_at (log_at v file) chunk ≡ None → CanSettle w chunk mode
+can-settle v file chunk range mode w rest mapped tree moves small free =
+    let tree' : w.hands.tree ≡ Some file = ap (λ (h : Hands). h.tree) rest.hands ∙ tree in
+    let moves' : w.hands.moves ≡ Some range = ap (λ (h : Hands). h.moves) rest.hands ∙ moves in
+    let t : tree_of w ≡ file = tree-of w file tree' in
+    record {
+      moves = had-tree w.hands.moves range moves';
+      tree = had-tree w.hands.tree file tree';
+      small = small;
+      free = ap (λ f. placed_at (log_at w f) chunk) t ∙ ap (λ (ls : List (List LogEntry)). placed_at (get_or ls file []) chunk) rest.logs ∙ free;
+      mapped = subst (λ r. IsMapped w r (Some (record { file = tree_of w; chunk = chunk; mode = mode }))) (sym (moved-is w range moves')) (subst (λ f. IsMapped w range (Some (record { file = f; chunk = chunk; mode = mode }))) (sym t) mapped);
+    }
+
+enough-here : (mode : Mode) → is_enough mode mode ≡ true
+unfolding is_enough
+enough-here modes.R = refl
+enough-here modes.W = refl
+
+enough-is : (mode : Mode) (o : Option Placed) (p : Placed) → o ≡ Some p → p.mode ≡ mode → IsEnoughPlaced mode o
+unfolding IsEnoughPlaced
+enough-is mode o p e m = rw e (ap (λ (x : Mode). is_enough mode x) m ∙ enough-here mode)
+
+some-placed : (o : Option Placed) (p : Placed) → o ≡ Some p → IsSome o
+some-placed o p e = subst (λ (o : Option Placed). IsSome o) (sym e) refl
+
+pub filled : (v : MapView) (file chunk range : ℕ) (mode : Mode) (w : MapView) (place : ℕ) (x : MapView) → MapsRest v w → v.hands.tree ≡ Some file → file < length v.ranges.logs → placed_at (log_at v file) chunk ≡ None → IsSettled w chunk mode place x →
+    (x.hands ≡ record v.hands { moves = None }) × IsSome (placed_at (log_at x file) chunk) × IsEnoughPlaced mode (placed_at (log_at x file) chunk)
+filled v file chunk range mode w place x rest tree within free h =
+    let t : tree_of w ≡ file = tree-of w file (ap (λ (k : Hands). k.tree) rest.hands ∙ tree) in
+    let more : List LogEntry = entries.Place chunk (moved_of w) mode ∷ [] in
+    let log : log_at x file ≡ log_at v file ++ more =
+    ap (λ (m : MapView). log_at m file) h.becomes.rest ∙ ap (λ f. get_or (slice_set w.ranges.logs f (log_at w f ++ more)) file []) t
+    ∙ log-here w.ranges.logs file (log_at w file ++ more) (subst (λ (ls : List (List LogEntry)). file < length ls) (sym rest.logs) within)
+    ∙ ap (λ (ls : List (List LogEntry)). get_or ls file [] ++ more) rest.logs in
+    let p : Placed = record { range = moved_of w; mode = mode; entry = length (log_at v file) } in
+    let e : placed_at (log_at x file) chunk ≡ Some p = ap (λ (l : List LogEntry). placed_at l chunk) log ∙ placed-last (log_at v file) chunk (moved_of w) mode free in (
+      ap (λ (m : MapView). m.hands) h.becomes.rest ∙ ap (λ (k : Hands). record k { moves = None }) rest.hands,
+      some-placed (placed_at (log_at x file) chunk) p e,
+      enough-is mode (placed_at (log_at x file) chunk) p e refl,
+    )
