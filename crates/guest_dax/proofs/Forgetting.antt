@@ -38,7 +38,7 @@ pub Forgets-some : (v w : MapView) → length v.ranges.looks ≡ range_count v �
 Forgets-some v w long (range, within, seen) e =
     let none : list_all is_noted_blocked v.ranges.looks ≡ false = not-all is_noted_blocked v.ranges.looks range None (omega (arith, within, long)) seen in
     let stays : (forgot v).ranges.rounds ≡ v.ranges.rounds = rw none (rw (and-false (nat_lt 0 (range_count v))) refl) in
-    record { keeps = KeepsMap-forgot v w e; hands = hands-forgot v w e; looks = NoLooks-forgot v w e; rounds = ap (λ (m : MapView). m.ranges.rounds) e ∙ stays }
+    record { keeps = KeepsMap-forgot v w e; hands = hands-forgot v w e; logs = ap (λ (m : MapView). m.ranges.logs) e; looks = NoLooks-forgot v w e; rounds = ap (λ (m : MapView). m.ranges.rounds) e ∙ stays }
 
 -- ---- the list of the looks
 

@@ -10,3 +10,5 @@ pub mod Placing
 pub mod PinLaws
 pub mod Mapping
 pub mod Upgrading
+pub mod Removing
+pub mod FreeingLaws

@@ -22,7 +22,7 @@ RoundKeeps-same v = record { keeps = KeepsMap-same v; looks = refl; sweeps = ref
 RoundKeeps-step : (u v : MapView) (range : ℕ) (w : MapView) → RoundKeeps u v → Searches v range w → RoundKeeps u w
 RoundKeeps-step u v range w a b = record { keeps = KeepsMap-both u v w a.keeps b.keeps; looks = b.looks ∙ a.looks; sweeps = b.sweeps ∙ a.sweeps; rounds = b.rounds ∙ a.rounds }
 
-pins-same : (h k : Hands) (range : ℕ) → h ≡ k → get_or k.pins range 0 ≡ get_or h.pins range 0
+pub pins-same : (h k : Hands) (range : ℕ) → h ≡ k → get_or k.pins range 0 ≡ get_or h.pins range 0
 pins-same h k range e = ap (λ (x : Hands). get_or x.pins range 0) (sym e)
 
 pub first-took : (u v : MapView) (range : ℕ) (w : MapView) → RoundKeeps u v → v.hands ≡ u.hands → range < range_count u → Attempted v range attempts.Took w → FirstRound u true w
@@ -66,7 +66,7 @@ blocked-next u v from range w k e others before here r low high = elim (cases_eq
   | inr else ↦ IsBlocked-same u u v w r (KeepsMap-same u) refl (others r (inl (omega arith))) (before r low (omega arith))
 ]
 
-others-next : (u v : MapView) (from range : ℕ) (w : MapView) → from ≤ range → OthersLooks u from range v → OthersLooks v range (range + 1) w → OthersLooks u from (range + 1) w
+pub others-next : (u v : MapView) (from range : ℕ) (w : MapView) → from ≤ range → OthersLooks u from range v → OthersLooks v range (range + 1) w → OthersLooks u from (range + 1) w
 others-next u v from range w low h k r out = elim out [
   | inl below ↦ k r (inl (omega arith)) ∙ h r (inl below)
   | inr above ↦ k r (inr above) ∙ h r (inr (omega arith))

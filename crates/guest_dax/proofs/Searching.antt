@@ -17,7 +17,9 @@ use Rattle.range_tree.specs.Ranges.{range_count, Takes, IsTaken, IsRefused, name
 use Rattle.guest_dax.specs.declared.attempts.Attempt.{Attempt}
 use Rattle.guest_dax.specs.declared.attempts.Attempt.TheVariants as attempts
 use Rattle.guest_dax.specs.Looks.{Blocks, IsBlocked}
-use Rattle.guest_dax.specs.Reclaims.{Searches, Comes, Attempted, Parts, moving}
+use Rattle.guest_dax.specs.Reclaims.{Searches, Comes, Attempted, Parts, EndsRemoved, moving}
+use Rattle.guest_dax.proofs.Removing.{removed-under, EndsRemoved-after}
+use Rattle.range_tree.specs.Ranges.{tree_of}
 use Rattle.guest_dax.proofs.Keeping.{KeepsMap-same, KeepsMap-both, KeepsMap-enter, KeepsMap-leave, KeepsMap-take}
 
 -- a word that is seen by a board that moves nothing
@@ -130,7 +132,7 @@ pub Attempted-refused : (v : MapView) (range : ℕ) (word : RangeWord) (attempt 
 Attempted-refused v range word attempt w = refused-by (is_blocked word) v range word attempt w refl
 
 -- what blocks a board blocks the one that it came from
-blocks-same : (u v : MapView) (own : ℕ) (word : RangeWord) → KeepsMap u v → Blocks v own word → Blocks u own word
+pub blocks-same : (u v : MapView) (own : ℕ) (word : RangeWord) → KeepsMap u v → Blocks v own word → Blocks u own word
 blocks-same u v own words.Free s b = b
 blocks-same u v own (words.Moving guest) s (a, b) = (λ e. a (e ∙ sym s.guest), sym s.others ∙ b)
 blocks-same u v own (words.Mapped file chunk mode pins) s (a, b, d) = (a, b, λ e. d (s.others ∙ e))
@@ -146,7 +148,7 @@ IsBlocked-same u v w x range k e l b = record {
 -- the hands and looks that an attempt begins with come from a look before it
 Comes-after : (u v : MapView) (range : ℕ) (attempt : Attempt) (w : MapView) → Searches u range v → v.hands ≡ u.hands → Comes v range attempt w → Comes u range attempt w
 Comes-after u v range attempts.Took w s e (h, free, seen) = (h ∙ ap (λ (k : Hands). record k { moves = Some range }) e, ap (λ (k : Hands). get_or k.pins range 0) (sym e) ∙ free, seen)
-Comes-after u v range (attempts.Removed file) w s e (h, within, free, seen) = (h ∙ ap (λ (k : Hands). record k { tree = Some file; moves = Some range }) e, subst (λ n. file < n) s.keeps.files within, ap (λ (k : Hands). get_or k.pins range 0) (sym e) ∙ free, seen)
+Comes-after u v range (attempts.Removed file) w s e (h, within, free, seen, removed) = (h ∙ ap (λ (k : Hands). record k { tree = Some file; moves = Some range }) e, subst (λ n. file < n) s.keeps.files within, ap (λ (k : Hands). get_or k.pins range 0) (sym e) ∙ free, seen, EndsRemoved-after u v w file range (s.keeps.logs file) removed)
 Comes-after u v range attempts.Blocked w s e (h, b) = (
   h ∙ e,
   record {
@@ -198,8 +200,8 @@ no-tree : (h : Hands) → h.tree ≡ None → record h { tree = None } ≡ h
 no-tree h e = ap (λ (t : Option ℕ). record h { tree = t }) (sym e)
 
 -- a range was taken under a tree
-pub Attempted-removed : (u : MapView) (file range : ℕ) (v w : MapView) → file < length u.ranges.logs → Enters u file v → IsTaken v range w → is_noted_blocked (look_at u range) ≡ false → Attempted u range (attempts.Removed file) w
-Attempted-removed u file range v w within enters t seen =
+pub Attempted-removed : (u : MapView) (file range : ℕ) (v w : MapView) → file < length u.ranges.logs → Enters u file v → IsTaken v range w → is_noted_blocked (look_at u range) ≡ false → EndsRemoved u w file range → Attempted u range (attempts.Removed file) w
+Attempted-removed u file range v w within enters t seen removed =
     let he = hands-enter u file v enters in
     let e = t.becomes.rest in (
       Searches-both u range v w (Searches-enter u file range v enters) (Searches-take v range w t),
@@ -208,18 +210,20 @@ Attempted-removed u file range v w within enters t seen =
         within,
         ap (λ (k : Hands). get_or k.pins range 0) (sym he) ∙ t.unpinned,
         ap (λ (m : MapView). is_noted_blocked (look_at m range)) e ∙ ap (λ l. is_noted_blocked (get_or l range None)) (looks-enter u file v enters) ∙ seen,
+        removed,
       ),
     )
 
 -- it was free then, and the tree was given back
 pub Attempted-free : (u : MapView) (file range : ℕ) (v w x : MapView) → u.hands.tree ≡ None → file < length u.ranges.logs → Enters u file v → IsTaken v range w → Leaves w x → is_noted_blocked (look_at u range) ≡ false → Attempted u range attempts.Took x
-Attempted-free u file range v w x none within enters takes leaves seen =
-    let (s, (h, f, free, blocked)) = Attempted-removed u file range v w within enters takes seen in (
-      Searches-both u range w x s (Searches-leave w range x leaves),
+Attempted-free u file range v w x none within enters t leaves seen =
+    let he = hands-enter u file v enters in
+    let e = t.becomes.rest in (
+      Searches-both u range w x (Searches-both u range v w (Searches-enter u file range v enters) (Searches-take v range w t)) (Searches-leave w range x leaves),
       (
-        hands-leave w x leaves ∙ ap (λ (k : Hands). record k { tree = None }) h ∙ no-tree (moving u range) none,
-        free,
-        ap (λ l. is_noted_blocked (get_or l range None)) (looks-leave w x leaves) ∙ blocked,
+        hands-leave w x leaves ∙ ap (λ (m : MapView). record m.hands { tree = None }) e ∙ ap (λ (k : Hands). record k { moves = Some range; tree = None }) he ∙ no-tree (moving u range) none,
+        ap (λ (k : Hands). get_or k.pins range 0) (sym he) ∙ t.unpinned,
+        ap (λ l. is_noted_blocked (get_or l range None)) (looks-leave w x leaves) ∙ ap (λ (m : MapView). is_noted_blocked (look_at m range)) e ∙ ap (λ l. is_noted_blocked (get_or l range None)) (looks-enter u file v enters) ∙ seen,
       ),
     )
 
@@ -257,12 +261,12 @@ refused-one word attempt b a = elim (true_or (is_blocked word)) [ inl e ↦ inl 
     true_or true = inl refl
     true_or false = inr refl
 
-pub Attempted-parts : (u : MapView) (file range : ℕ) (v w : MapView) (attempt : Attempt) (x : MapView) → u.hands.tree ≡ None → file < length u.ranges.logs → Enters u file v → IsTaken v range w → Parts file w attempt x → is_noted_blocked (look_at u range) ≡ false → Attempted u range attempt x
-Attempted-parts u file range v w attempts.Took x none within enters takes leaves seen = Attempted-free u file range v w x none within enters takes leaves seen
-Attempted-parts u file range v w (attempts.Removed f) x none within enters takes (e, d) seen =
-    subst (λ g. Attempted u range (attempts.Removed g) x) (sym e) (subst (λ m. Attempted u range (attempts.Removed file) m) (sym d) (Attempted-removed u file range v w within enters takes seen))
-Attempted-parts u file range v w attempts.Blocked x none within enters takes p seen = absurd p
-Attempted-parts u file range v w attempts.Again x none within enters takes p seen = absurd p
+pub Attempted-parts : (u : MapView) (file range before : ℕ) (v w : MapView) (attempt : Attempt) (x : MapView) → u.hands.tree ≡ None → file < length u.ranges.logs → Enters u file v → IsTaken v range w → before ≡ length (log_at v (tree_of v)) → Parts file before w attempt x → is_noted_blocked (look_at u range) ≡ false → Attempted u range attempt x
+Attempted-parts u file range before v w attempts.Took x none within enters takes was leaves seen = Attempted-free u file range v w x none within enters takes leaves seen
+Attempted-parts u file range before v w (attempts.Removed f) x none within enters takes was (e, d, longer) seen =
+    subst (λ g. Attempted u range (attempts.Removed g) x) (sym e) (subst (λ m. Attempted u range (attempts.Removed file) m) (sym d) (Attempted-removed u file range v w within enters takes seen (removed-under u file range before v w within enters takes was longer)))
+Attempted-parts u file range before v w attempts.Blocked x none within enters takes was p seen = absurd p
+Attempted-parts u file range before v w attempts.Again x none within enters takes was p seen = absurd p
 
 -- a range that is seen mapped without pins isn't blocked
 pub mapped-unblocked : (v : MapView) (range : ℕ) (word : RangeWord) (w : MapView) → range < length v.ranges.looks → Looks v range word w → is_blocked word ≡ false → is_noted_blocked (look_at w range) ≡ false

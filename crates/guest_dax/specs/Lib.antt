@@ -3,3 +3,4 @@ pub mod Looks
 pub mod Reclaims
 pub mod Causes
 pub mod Pinning
+pub mod Freeing

@@ -1,7 +1,9 @@
 -- How a range is taken for a guest, and what shows that none can be.
-use Rattle.std.specs.Prelude.{◌≡◌, ◌≢◌, ℕ, ◌+◌, ◌<◌, ◌≤◌, Bool, true, false, length, Option, Some, None, ◌⊎◌, IsSome, Result, Ok, Err}
+use Rattle.std.specs.Prelude.{◌≡◌, ◌≢◌, ℕ, ◌+◌, ◌<◌, ◌≤◌, Bool, true, false, List, [], ◌∷◌, ◌++◌, length, Option, Some, None, ◌⊎◌, IsSome, Result, Ok, Err}
 use Rattle.plain_file.specs.Counts.{Rose}
-use Rattle.page_map.specs.Board.{MapView, Hands, known_files}
+use Rattle.page_map.specs.Board.{MapView, Hands, known_files, log_at}
+use Rattle.page_map.specs.declared.ranges.LogEntry.{LogEntry}
+use Rattle.page_map.specs.declared.ranges.LogEntry.TheVariants as entries
 use Rattle.range_tree.specs.Ranges.{range_count, pins_on, look_at, is_noted_blocked, Leaves}
 use Rattle.guest_wire.specs.declared.wires.WireRefusal.{WireRefusal}
 use Rattle.guest_wire.specs.declared.wires.WireRefusal.TheVariants as wires
@@ -23,17 +25,22 @@ pub record Searches (old : MapView) (range : ℕ) (new : MapView) : Type 0 where
 abbrev pub moving : MapView → ℕ → Hands
 moving v range = record v.hands { moves = Some range }
 
--- what is done with a range that was taken under a tree: the tree is still had, or was given back where the range was free
-abbrev pub Parts : ℕ → MapView → Attempt → MapView → Type 0
-Parts file old attempts.Took new = Leaves old new
-Parts file old (attempts.Removed f) new = (f ≡ file) × (new ≡ old)
-Parts file old attempts.Blocked new = ⊥
-Parts file old attempts.Again new = ⊥
+-- what is seen of a file's log has grown, and ends with the removal of a range
+pub record EndsRemoved (old new : MapView) (file range : ℕ) : Type 0 where
+  pub more : List LogEntry
+  pub grown : log_at new file ≡ log_at old file ++ (more ++ entries.Remove range ∷ [])
+
+-- what is done with a range that was taken under a tree, whose log had so many entries before: the tree is still had, or was given back where the range was free
+abbrev pub Parts : ℕ → ℕ → MapView → Attempt → MapView → Type 0
+Parts file before old attempts.Took new = Leaves old new
+Parts file before old (attempts.Removed f) new = (f ≡ file) × (new ≡ old) × (before < length (log_at old file))
+Parts file before old attempts.Blocked new = ⊥
+Parts file before old attempts.Again new = ⊥
 
 -- what one attempt at a range comes to
 abbrev pub Comes : MapView → ℕ → Attempt → MapView → Type 0
 Comes old range attempts.Took new = (new.hands ≡ moving old range) × (pins_on old range ≡ 0) × (is_noted_blocked (look_at new range) ≡ false)
-Comes old range (attempts.Removed file) new = (new.hands ≡ record (moving old range) { tree = Some file }) × (file < known_files old) × (pins_on old range ≡ 0) × (is_noted_blocked (look_at new range) ≡ false)
+Comes old range (attempts.Removed file) new = (new.hands ≡ record (moving old range) { tree = Some file }) × (file < known_files old) × (pins_on old range ≡ 0) × (is_noted_blocked (look_at new range) ≡ false) × EndsRemoved old new file range
 Comes old range attempts.Blocked new = (new.hands ≡ old.hands) × IsBlocked old new range
 Comes old range attempts.Again new = (new.hands ≡ old.hands) × IsSome (look_at new range)
 
@@ -119,6 +126,7 @@ SecondRound old (Err e) new = (new.map.hands ≡ old.map.hands) × SomeUnblocked
 pub record Forgets (old new : MapView) : Type 0 where
   pub keeps : KeepsMap old new
   pub hands : new.hands ≡ old.hands
+  pub logs : new.ranges.logs ≡ old.ranges.logs
   pub looks : NoLooks new
   pub rounds : new.ranges.rounds ≡ old.ranges.rounds
 

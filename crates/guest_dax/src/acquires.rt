@@ -33,7 +33,7 @@ fn first_round<R: RangeBoard>(ranges: &mut R) -> bool
 }
 
 // No look is noted any more.
-fn forget<R: RangeBoard>(ranges: &mut R)
+pub(crate) fn forget<R: RangeBoard>(ranges: &mut R)
     requires { SomeUnblocked (R.map ranges.old) }
     ensures { Forgets (R.map ranges.old) (R.map ranges.new) }
 {

@@ -22,7 +22,7 @@ pub(crate) enum Attempt {
 
 // What a word says that refused a take.
 #[tactic(auto, unfolding(range_tree::specs::Ranges::is_blocked, crate::specs::Reclaims::is_removed))]
-fn refused(word: &RangeWord) -> Attempt
+pub(crate) fn refused(word: &RangeWord) -> Attempt
     ensures blocked { is_blocked word.now ≡ true → result ≡ attempts.Blocked }
     ensures again { is_blocked word.now ≡ false → result ≡ attempts.Again }
     ensures unremoved { is_removed result ≡ false }
@@ -75,7 +75,7 @@ pub(crate) fn try_free<R: RangeBoard>(ranges: &mut R, range: u32) -> Attempt
 // What to do with a range that was taken under a tree: where the tree had it, its log has grown.
 fn part<R: RangeBoard>(ranges: &mut R, file: u32, before: u64) -> Attempt
     requires { (R.map ranges.old).hands.tree ≡ Some file }
-    ensures { Parts file (R.map ranges.old) result (R.map ranges.new) }
+    ensures { Parts file before (R.map ranges.old) result (R.map ranges.new) }
 {
     if ranges.log_len() > before {
         return Attempt::Removed { file };
@@ -85,7 +85,12 @@ fn part<R: RangeBoard>(ranges: &mut R, file: u32, before: u64) -> Attempt
 }
 
 // Takes a range that was seen mapped to a file, under its tree.
-fn take_mapped<T: Wait, R: RangeBoard>(rt: &T, ranges: &mut R, file: u32, range: u32) -> Attempt
+pub(crate) fn take_mapped<T: Wait, R: RangeBoard>(
+    rt: &T,
+    ranges: &mut R,
+    file: u32,
+    range: u32,
+) -> Attempt
     requires range { range < range_count (R.map ranges.old) }
     requires file { file < length (R.map ranges.old).ranges.logs }
     requires looks { length (R.map ranges.old).ranges.looks ≡ range_count (R.map ranges.old) }

@@ -54,6 +54,7 @@ where
         ensures walks { Walks (stand (W.wire self.old.driver.wire) (F.board self.old.files) (R.map self.old.ranges)) (stand (W.wire self.new.driver.wire) (F.board self.new.files) (R.map self.new.ranges)) }
         ensures unmaps { Unmaps (stand (W.wire self.old.driver.wire) (F.board self.old.files) (R.map self.old.ranges)) result (stand (W.wire self.new.driver.wire) (F.board self.new.files) (R.map self.new.ranges)) }
         ensures cause { IfErr result (λ e. IsCause W.wire W.gives self.old.driver.wire self.old.driver.unique e self.new.driver.wire self.new.driver.unique) }
+        ensures logs { (R.map self.new.ranges).ranges.logs ≡ (R.map self.old.ranges).ranges.logs }
         ensures refs { self.new.refs ≡ self.old.refs }
     {
         self.ranges.sound_ranges();

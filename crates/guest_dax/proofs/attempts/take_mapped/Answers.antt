@@ -11,7 +11,7 @@ pub leave-requires : goal.leave-requires
 leave-requires g c = record { had = had-tree _ c.args.file (ap (λ (m : MapView). m.hands.tree) (refused-err _ c.args.range c.in-Err.word _ c.in-Err.ensures).looks.noted ∙ ap (λ (m : MapView). m.hands.tree) c.enter.ensures.becomes.rest) }
 
 pub returns-in-Ok : goal.returns-in-Ok
-returns-in-Ok g c = Attempted-parts _ c.args.file c.args.range _ _ c.part.result _ c.requires.tree c.requires.file c.enter.ensures (taken-ok _ c.args.range tt _ c.in-Ok.ensures) c.part.ensures c.requires.seen
+returns-in-Ok g c = Attempted-parts _ c.args.file c.args.range c.log_len-before.result _ _ c.part.result _ c.requires.tree c.requires.file c.enter.ensures (taken-ok _ c.args.range tt _ c.in-Ok.ensures) c.log_len-before.ensures c.part.ensures c.requires.seen
 
 pub returns-in-Err : goal.returns-in-Err
 returns-in-Err g c =
