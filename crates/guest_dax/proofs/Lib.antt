@@ -1,0 +1,14 @@
+pub mod Keeping
+pub mod Searching
+pub mod Asking
+pub mod Window
+pub mod Walking
+pub mod Requesting
+pub mod Rounds
+pub mod Forgetting
+pub mod Placing
+pub mod PinLaws
+pub mod Mapping
+pub mod Upgrading
+pub mod Removing
+pub mod FreeingLaws

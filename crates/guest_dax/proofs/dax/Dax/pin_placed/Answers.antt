@@ -1,0 +1,12 @@
+use Rattle.std.proofs.Common.{◌≡◌, ◌∙◌, ap, sym, refl, ℕ, false, None, Some, length, inl, arith}
+use Rattle.page_map.specs.Board.{MapView, Hands}
+use Rattle.guest_dax.specs.Stands.{stand, Stand, Keeps}
+use Rattle.guest_dax.proofs.Walking.{Keeps-both, Keeps-map}
+use Rattle.guest_dax.proofs.PinLaws.{PinsFound-keeps}
+use Rattle.guest_dax.proofs.dax.Dax.pin_placed.Goals as goal
+
+pub returns-clause-keeps : goal.returns-clause-keeps
+returns-clause-keeps g c =
+    let s = stand (g.W.Wire.wire c.args.self.now.driver.wire) (g.F.FileBoard.board c.args.self.now.files) (g.R.MapBoard.map c.args.self.now.ranges) in
+    let t = stand (g.W.Wire.wire c.make_enough.new.self.driver.wire) (g.F.FileBoard.board c.make_enough.new.self.files) (g.R.MapBoard.map c.make_enough.new.self.ranges) in
+    Keeps-both s t _ c.make_enough.ensures.keeps (Keeps-map t _ (PinsFound-keeps t.map c.args.file c.args.chunk c.args.mode c.pin_found.result _ c.pin_found.ensures))

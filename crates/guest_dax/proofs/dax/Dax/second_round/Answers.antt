@@ -1,0 +1,17 @@
+use Rattle.std.proofs.Common.{◌≡◌, ◌∙◌, ap, sym, subst, refl, ℕ, ◌<◌, true, None, Some, List, length, Option, Result, Ok, Err, Bool, false, arith}
+use Rattle.guest_dax.specs.Stands.{stand, Stand}
+use Rattle.guest_dax.specs.Reclaims.{Goes, SecondRound, Walks}
+use Rattle.guest_dax.specs.declared.refusals.DaxRefusal.{DaxRefusal}
+use Rattle.guest_dax.proofs.Walking.{Walks-both}
+use Rattle.guest_dax.proofs.Rounds.{second-part}
+use Rattle.guest_dax.proofs.dax.Dax.second_round.Goals as goal
+
+pub returns-clause-walks : goal.returns-clause-walks
+returns-clause-walks g c = Walks-both _ _ _ c.walk.ensures.walks c.walk-2.ensures.walks
+
+pub returns-clause-round : goal.returns-clause-round
+returns-clause-round g c =
+    let s = stand (g.W.Wire.wire c.args.self.now.driver.wire) (g.F.FileBoard.board c.args.self.now.files) (g.R.MapBoard.map c.args.self.now.ranges) in
+    let t = stand (g.W.Wire.wire c.walk.new.self.driver.wire) (g.F.FileBoard.board c.walk.new.self.files) (g.R.MapBoard.map c.walk.new.self.ranges) in
+    let u = stand (g.W.Wire.wire c.walk-2.new.self.driver.wire) (g.F.FileBoard.board c.walk-2.new.self.files) (g.R.MapBoard.map c.walk-2.new.self.ranges) in
+    second-part s t u c.min-start.result c.walk-2.result c.walk.ensures.walks (rw (c.if-branch.false, c.ranges-count.ensures.count) at c.in_ok-walk.ensures.goes) c.walk-2.ensures.goes

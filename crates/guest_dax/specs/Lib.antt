@@ -1,0 +1,6 @@
+pub mod Stands
+pub mod Looks
+pub mod Reclaims
+pub mod Causes
+pub mod Pinning
+pub mod Freeing
