@@ -1,18 +1,16 @@
 -- Forgetting the noted looks, and listing them.
-use Rattle.std.proofs.Common.{◌≡◌, ◌∙◌, ap, sym, refl, subst, ℕ, zero, suc, ◌+◌, ◌<◌, ◌≤◌, Bool, true, false, ◌&&◌, nat_lt, List, [], ◌∷◌, ◌++◌, length, take, get_or, Option, None, Some, arith}
-use Rattle.std.specs.Prelude.{if◌then◌else◌}
+use Rattle.std.proofs.Common.{◌≡◌, ◌∙◌, ap, sym, refl, subst, ℕ, zero, suc, ◌+◌, ◌<◌, Bool, true, false, ◌&&◌, nat_lt, List, [], ◌∷◌, ◌++◌, length, take, get_or, Option, None, Some, arith}
 use Rattle.std.specs.List.{list_all}
-use Rattle.std.proofs.lemmas.List.{append-nil}
-use Rattle.std.proofs.lemmas.Grind.{common_steps, elements}
+use Rattle.std.proofs.lemmas.Grind.{common_steps}
 use Rattle.page_map.specs.declared.ranges.Look.{Look}
-use Rattle.page_map.specs.Board.{MapView, Noted, Hands, RangesView}
-use Rattle.range_tree.specs.Ranges.{range_count, look_at, is_noted_blocked, forgot}
+use Rattle.page_map.specs.Board.{MapView, Noted}
+use Rattle.range_tree.specs.Ranges.{range_count, is_noted_blocked, forgot}
 use Rattle.guest_dax.specs.Looks.{SomeUnblocked, NoLooks, looks_from, look_of}
-use Rattle.guest_dax.specs.Stands.{KeepsMap, Keeps, Stand}
+use Rattle.guest_dax.specs.Stands.{KeepsMap}
 use Rattle.guest_dax.specs.Reclaims.{Forgets}
 use Rattle.std.specs.Option.{option_map}
 use Rattle.page_map.specs.declared.ranges.RangeWord.{RangeWord}
-use Rattle.guest_dax.proofs.Keeping.{KeepsMap-same, KeepsMap-both}
+use Rattle.guest_dax.proofs.Keeping.{KeepsMap-same}
 
 and-false : (b : Bool) → (b && false) ≡ false
 and-false true = refl

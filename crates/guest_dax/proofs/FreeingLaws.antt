@@ -1,19 +1,15 @@
 -- A search for a mapped range to free.
-use Rattle.std.proofs.Common.{◌≡◌, ◌≢◌, ◌∙◌, ap, sym, refl, subst, ℕ, ◌+◌, ◌<◌, ◌≤◌, Bool, true, false, List, length, get_or, Option, None, Some, Result, Ok, Err, inl, inr, arith}
-use Rattle.std.specs.Prelude.{◌⊎◌}
+use Rattle.std.proofs.Common.{◌≡◌, ◌∙◌, ap, sym, refl, subst, ℕ, ◌+◌, ◌<◌, ◌≤◌, Bool, true, false, List, length, get_or, Option, None, Result, Ok, Err, inl, inr, arith}
 use Rattle.std.proofs.lemmas.Bool.{cases_eq, cases_lt}
-use Rattle.page_map.specs.declared.pages.Mode.{Mode}
 use Rattle.page_map.specs.declared.ranges.RangeWord.{RangeWord}
 use Rattle.page_map.specs.declared.ranges.RangeWord.TheVariants as words
-use Rattle.page_map.specs.declared.ranges.LogEntry.{LogEntry}
-use Rattle.page_map.specs.Board.{MapView, Hands, Noted, log_at}
+use Rattle.page_map.specs.Board.{MapView, Hands, Noted}
 use Rattle.range_tree.specs.Ranges.{range_count, pins_on, look_at, is_noted_blocked, Looks, Becomes, with_moves}
-use Rattle.guest_dax.specs.declared.attempts.Attempt.{Attempt}
 use Rattle.guest_dax.specs.declared.attempts.Attempt.TheVariants as attempts
 use Rattle.guest_dax.specs.declared.refusals.DaxRefusal.{DaxRefusal}
 use Rattle.guest_dax.specs.Stands.{Stand, KeepsMap}
 use Rattle.guest_dax.specs.Looks.{Blocks, IsBlocked}
-use Rattle.guest_dax.specs.Reclaims.{Searches, Attempted, EndsRemoved, OthersLooks, Walks, Unmaps, Caused, moving}
+use Rattle.guest_dax.specs.Reclaims.{Searches, Attempted, OthersLooks, Walks, Unmaps}
 use Rattle.guest_dax.specs.Freeing.{Passes, IsPassed, Tried, IsFreed, FreesAt, FreesIn, FreesOne}
 use Rattle.guest_dax.proofs.Keeping.{KeepsMap-same}
 use Rattle.guest_dax.proofs.Searching.{Searches-look, look_at-looked, hands-look, blocks-same}

@@ -1,5 +1,5 @@
 -- How a range is taken for a guest, and what shows that none can be.
-use Rattle.std.specs.Prelude.{◌≡◌, ◌≢◌, ℕ, ◌+◌, ◌<◌, ◌≤◌, Bool, true, false, List, [], ◌∷◌, ◌++◌, length, Option, Some, None, ◌⊎◌, IsSome, Result, Ok, Err}
+use Rattle.std.specs.Prelude.{◌≡◌, ◌≢◌, ℕ, ◌+◌, ◌<◌, ◌≤◌, Bool, true, false, List, [], ◌∷◌, ◌++◌, length, Some, None, ◌⊎◌, IsSome, Result, Ok, Err}
 use Rattle.plain_file.specs.Counts.{Rose}
 use Rattle.page_map.specs.Board.{MapView, Hands, known_files, log_at}
 use Rattle.page_map.specs.declared.ranges.LogEntry.{LogEntry}
