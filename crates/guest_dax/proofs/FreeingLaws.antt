@@ -29,7 +29,7 @@ passes-same u v own words.Free k b = tt
 passes-same u v own (words.Moving guest) k b = blocks-same u v own (words.Moving guest) k b
 passes-same u v own (words.Mapped file chunk mode pins) k b = blocks-same u v own (words.Mapped file chunk mode pins) k b
 
-IsPassed-same : (u v w x : MapView) (range : ℕ) → KeepsMap u v → pins_on v range ≡ pins_on u range → look_at x range ≡ look_at w range → IsPassed v w range → IsPassed u x range
+pub IsPassed-same : (u v w x : MapView) (range : ℕ) → KeepsMap u v → pins_on v range ≡ pins_on u range → look_at x range ≡ look_at w range → IsPassed v w range → IsPassed u x range
 IsPassed-same u v w x range k e l b = record { noted = b.noted; at = l ∙ b.at; own = b.own ∙ e; passes = passes-same u v b.noted.own b.noted.word k b.passes }
 
 pub Tried-free : (v : MapView) (range : ℕ) (w : MapView) → range < length v.ranges.looks → Looks v range words.Free w → Tried v range None w
@@ -117,7 +117,7 @@ pub free-on : (s t u : Stand) (from range : ℕ) → from ≤ range → KeepsMap
 free-on s t u from range low k e others before (h, o, b) =
     (h ∙ e, others-next s.map t.map from range u.map low others o, passed-next s.map t.map from range u.map k e o before b)
 
-freed-after : (u v w : MapView) → KeepsMap u v → IsFreed v w → IsFreed u w
+pub freed-after : (u v w : MapView) → KeepsMap u v → IsFreed v w → IsFreed u w
 freed-after u v w k f = record { file = f.file; known = subst (λ (n : ℕ). f.file < n) k.files f.known; range = f.range; removed = EndsRemoved-after u v w f.file f.range (k.logs f.file) f.removed }
 
 pub IsFreed-kept : (u v w : MapView) → w.ranges.logs ≡ v.ranges.logs → IsFreed u v → IsFreed u w

@@ -1,4 +1,4 @@
-ghost use Rattle.std.specs.Prelude.{◌≡◌, ◌<◌, ◌≤◌, ℕ, true, false, None, IfOk, IfErr, length};
+ghost use Rattle.std.specs.Prelude.{◌≡◌, ◌<◌, ◌≤◌, ◌-◌, ◌^◌, ℕ, true, false, None, IfOk, IfErr, length};
 ghost use Rattle.page_map.specs.Board.{Hands, MapView};
 ghost use Rattle.range_tree.specs.Ranges.{range_count};
 ghost use Rattle.guest_dax.specs.Stands.{stand, Stands, Keeps};
@@ -132,6 +132,7 @@ where
         ensures keeps { Keeps (stand (W.wire self.old.driver.wire) (F.board self.old.files) (R.map self.old.ranges)) (stand (W.wire self.new.driver.wire) (F.board self.new.files) (R.map self.new.ranges)) }
         ensures reclaims { Reclaims (stand (W.wire self.old.driver.wire) (F.board self.old.files) (R.map self.old.ranges)) result (stand (W.wire self.new.driver.wire) (F.board self.new.files) (R.map self.new.ranges)) }
         ensures rounds { (R.map self.new.ranges).ranges.rounds ≡ (R.map self.old.ranges).ranges.rounds }
+        ensures later { (R.map self.old.ranges).ranges.sweeps ≤ 2 ^ 64 - 1 → (R.map self.old.ranges).ranges.sweeps ≤ (R.map self.new.ranges).ranges.sweeps }
         ensures cause { IfErr result (λ e. IsCause W.wire W.gives self.old.driver.wire self.old.driver.unique e self.new.driver.wire self.new.driver.unique) }
         ensures quiet { IfOk result (λ freed. freed ≡ false → self.new.driver ≡ self.old.driver) }
         ensures refs { self.new.refs ≡ self.old.refs }
