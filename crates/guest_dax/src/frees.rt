@@ -115,15 +115,13 @@ where
         self.free_walk(rt, alloc, 0, start)
     }
 
-    /// Frees one range that is mapped without pins: takes it from its tree, unmaps it by REMOVEMAPPING, and
-    /// settles it free. It goes over the ranges once, from behind the range that was reclaimed last, and
-    /// passes over those that are free. `false` comes exactly where it took none: one look per range is
-    /// noted then, each of which shows a range that is free, moving, or pinned. After every other answer
-    /// no look is noted.
+    /// Frees one range that is mapped without pins: what is seen of its file's log ends with its removal
+    /// then. `false` comes exactly where it took none: one look per range is noted then, each of which shows
+    /// a range that is free, moving by another guest, or pinned. After every other answer no look is noted.
     ///
     /// # Errors
     ///
-    /// As [`acquire`](Dax::acquire), but for `Busy`. The range is free then.
+    /// As [`acquire`](Dax::acquire), but for `Busy`.
     pub fn reclaim_one<T: Wait>(&mut self, rt: &T, alloc: Global) -> Result<bool, DaxRefusal>
         requires stands { Stands (stand (W.wire self.old.driver.wire) (F.board self.old.files) (R.map self.old.ranges)) self.old.refs }
         requires tree { (R.map self.old.ranges).hands.tree ≡ None }
