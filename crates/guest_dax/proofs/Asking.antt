@@ -1,5 +1,5 @@
 -- What an honest wire makes of a request that succeeds without a value, and that names no file.
-use Rattle.std.proofs.Common.{◌≡◌, ◌∙◌, ap, sym, refl, subst, arith, ℕ, ◌+◌, ◌<◌, ◌≤◌, ◌^◌, Bool, true, false, true≢false, nat_lt, List, [], length, Option, Some, None, Result, Ok, Err, inl, inr}
+use Rattle.std.proofs.Common.{◌≡◌, ◌∙◌, ap, sym, refl, arith, ℕ, ◌<◌, ◌≤◌, ◌^◌, Bool, true, false, true≢false, nat_lt, List, length, Option, Some, None, Result, Ok, Err, inl, inr}
 use Rattle.std.specs.Prelude.{◌⊎◌, ◌||◌, ℤ}
 use Rattle.std.proofs.lemmas.Bool.{eq-eqb, le-ltb}
 use Rattle.fuse_wire.specs.Layout.{FitsParts}
@@ -11,7 +11,7 @@ use Rattle.fuse_codec.specs.Grammar.{kind_of, asked, clean_message, header_of, S
 use Rattle.fuse_codec.specs.Opcodes.{reply_form}
 use Rattle.fuse_codec.specs.Reading.{message_of}
 use Rattle.fuse_codec.specs.ReplyReading.{reply_of}
-use Rattle.fuse_codec.specs.Replies.{reply_parts, reply_len, clean_reply}
+use Rattle.fuse_codec.specs.Replies.{reply_parts, clean_reply}
 use Rattle.fuse_codec.specs.declared.errors.BadRequest.{BadRequest}
 use Rattle.fuse_codec.specs.declared.messages.Message.{Message}
 use Rattle.fuse_codec.specs.declared.replies.Reply.{Reply}
@@ -26,7 +26,7 @@ use Rattle.fuse_device.specs.Requests.{answered, is_init, is_forget, served}
 use Rattle.fuse_device.specs.Steps.{Step, wanted_room, reply_to, judged_message, replied, header_at, is_forget_number}
 use Rattle.fuse_device.proofs.OpenHandles.{header_at-spelled, length-spelled, forget_number, least_room, device_step-succeeds}
 use Rattle.fuse_device.proofs.Receiving.{clean_reply_again}
-use Rattle.guest_wire.specs.Wires.{WireView, Boards, Sent, world_at, turn_for, with_turn, without_turn, step_of, IsCarried, IsSeen, Honest}
+use Rattle.guest_wire.specs.Wires.{WireView, Boards, Sent, world_at, turn_for, with_turn, without_turn, step_of, IsCarried, Honest}
 use Rattle.guest_wire.specs.Requests.{sent}
 use Rattle.guest_wire.specs.Answers.{Answers, heard, heard_as, numbered}
 use Rattle.guest_wire.specs.declared.wires.WireError.{WireError}

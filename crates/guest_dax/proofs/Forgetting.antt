@@ -1,18 +1,18 @@
 -- Forgetting the noted looks, and listing them.
-use Rattle.std.proofs.Common.{◌≡◌, ◌∙◌, ap, sym, refl, subst, ℕ, zero, suc, ◌+◌, ◌<◌, ◌≤◌, Bool, true, false, ◌&&◌, nat_lt, List, [], ◌∷◌, ◌++◌, length, take, get_or, Option, None, Some, arith}
+use Rattle.std.proofs.Common.{◌≡◌, ◌∙◌, ap, sym, refl, subst, ℕ, zero, suc, ◌+◌, ◌<◌, Bool, true, false, ◌&&◌, nat_lt, List, [], ◌∷◌, ◌++◌, length, take, get_or, Option, None, Some, arith, ◌-◌, ◌^◌, is_some, ◌≤◌}
 use Rattle.std.specs.Prelude.{if◌then◌else◌}
 use Rattle.std.specs.List.{list_all}
-use Rattle.std.proofs.lemmas.List.{append-nil}
-use Rattle.std.proofs.lemmas.Grind.{common_steps, elements}
+use Rattle.std.proofs.lemmas.Grind.{common_steps}
+use Rattle.plain_file.specs.Counts.{more_by_one}
 use Rattle.page_map.specs.declared.ranges.Look.{Look}
-use Rattle.page_map.specs.Board.{MapView, Noted, Hands, RangesView}
-use Rattle.range_tree.specs.Ranges.{range_count, look_at, is_noted_blocked, forgot}
+use Rattle.page_map.specs.Board.{MapView, Noted}
+use Rattle.range_tree.specs.Ranges.{range_count, is_noted_blocked, has_swept, forgot}
 use Rattle.guest_dax.specs.Looks.{SomeUnblocked, NoLooks, looks_from, look_of}
-use Rattle.guest_dax.specs.Stands.{KeepsMap, Keeps, Stand}
+use Rattle.guest_dax.specs.Stands.{KeepsMap}
 use Rattle.guest_dax.specs.Reclaims.{Forgets}
 use Rattle.std.specs.Option.{option_map}
 use Rattle.page_map.specs.declared.ranges.RangeWord.{RangeWord}
-use Rattle.guest_dax.proofs.Keeping.{KeepsMap-same, KeepsMap-both}
+use Rattle.guest_dax.proofs.Keeping.{KeepsMap-same}
 
 and-false : (b : Bool) → (b && false) ≡ false
 and-false true = refl
@@ -34,11 +34,18 @@ hands-forgot v w e = ap (λ (m : MapView). m.hands) e
 pub NoLooks-forgot : (v w : MapView) → w ≡ forgot v → NoLooks w
 NoLooks-forgot v w e = subst (λ (m : MapView). NoLooks m) (sym e) refl
 
+later-by : (b : Bool) (n m : ℕ) → n ≤ 2 ^ 64 - 1 → m ≡ (if b then more_by_one n else n) → n ≤ m
+later-by true n m most e = omega (arith, most, e)
+later-by false n m most e = omega (arith, e)
+
+pub later-forgot : (v w : MapView) → w ≡ forgot v → v.ranges.sweeps ≤ 2 ^ 64 - 1 → v.ranges.sweeps ≤ w.ranges.sweeps
+later-forgot v w e most = later-by (has_swept is_some v) v.ranges.sweeps w.ranges.sweeps most (ap (λ (m : MapView). m.ranges.sweeps) e)
+
 pub Forgets-some : (v w : MapView) → length v.ranges.looks ≡ range_count v → SomeUnblocked v → w ≡ forgot v → Forgets v w
 Forgets-some v w long (range, within, seen) e =
     let none : list_all is_noted_blocked v.ranges.looks ≡ false = not-all is_noted_blocked v.ranges.looks range None (omega (arith, within, long)) seen in
     let stays : (forgot v).ranges.rounds ≡ v.ranges.rounds = rw none (rw (and-false (nat_lt 0 (range_count v))) refl) in
-    record { keeps = KeepsMap-forgot v w e; hands = hands-forgot v w e; logs = ap (λ (m : MapView). m.ranges.logs) e; looks = NoLooks-forgot v w e; rounds = ap (λ (m : MapView). m.ranges.rounds) e ∙ stays }
+    record { keeps = KeepsMap-forgot v w e; hands = hands-forgot v w e; later = later-forgot v w e; logs = ap (λ (m : MapView). m.ranges.logs) e; looks = NoLooks-forgot v w e; rounds = ap (λ (m : MapView). m.ranges.rounds) e ∙ stays }
 
 -- ---- the list of the looks
 

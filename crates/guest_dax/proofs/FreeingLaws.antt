@@ -1,19 +1,15 @@
 -- A search for a mapped range to free.
-use Rattle.std.proofs.Common.{◌≡◌, ◌≢◌, ◌∙◌, ap, sym, refl, subst, ℕ, ◌+◌, ◌<◌, ◌≤◌, Bool, true, false, List, length, get_or, Option, None, Some, Result, Ok, Err, inl, inr, arith}
-use Rattle.std.specs.Prelude.{◌⊎◌}
+use Rattle.std.proofs.Common.{◌≡◌, ◌∙◌, ap, sym, refl, subst, ℕ, ◌+◌, ◌<◌, ◌≤◌, Bool, true, false, List, length, get_or, Option, None, Result, Ok, Err, inl, inr, arith}
 use Rattle.std.proofs.lemmas.Bool.{cases_eq, cases_lt}
-use Rattle.page_map.specs.declared.pages.Mode.{Mode}
 use Rattle.page_map.specs.declared.ranges.RangeWord.{RangeWord}
 use Rattle.page_map.specs.declared.ranges.RangeWord.TheVariants as words
-use Rattle.page_map.specs.declared.ranges.LogEntry.{LogEntry}
-use Rattle.page_map.specs.Board.{MapView, Hands, Noted, log_at}
+use Rattle.page_map.specs.Board.{MapView, Hands, Noted}
 use Rattle.range_tree.specs.Ranges.{range_count, pins_on, look_at, is_noted_blocked, Looks, Becomes, with_moves}
-use Rattle.guest_dax.specs.declared.attempts.Attempt.{Attempt}
 use Rattle.guest_dax.specs.declared.attempts.Attempt.TheVariants as attempts
 use Rattle.guest_dax.specs.declared.refusals.DaxRefusal.{DaxRefusal}
 use Rattle.guest_dax.specs.Stands.{Stand, KeepsMap}
 use Rattle.guest_dax.specs.Looks.{Blocks, IsBlocked}
-use Rattle.guest_dax.specs.Reclaims.{Searches, Attempted, EndsRemoved, OthersLooks, Walks, Unmaps, Caused, moving}
+use Rattle.guest_dax.specs.Reclaims.{Searches, Attempted, OthersLooks, Walks, Unmaps}
 use Rattle.guest_dax.specs.Freeing.{Passes, IsPassed, Tried, IsFreed, FreesAt, FreesIn, FreesOne}
 use Rattle.guest_dax.proofs.Keeping.{KeepsMap-same}
 use Rattle.guest_dax.proofs.Searching.{Searches-look, look_at-looked, hands-look, blocks-same}
@@ -33,7 +29,7 @@ passes-same u v own words.Free k b = tt
 passes-same u v own (words.Moving guest) k b = blocks-same u v own (words.Moving guest) k b
 passes-same u v own (words.Mapped file chunk mode pins) k b = blocks-same u v own (words.Mapped file chunk mode pins) k b
 
-IsPassed-same : (u v w x : MapView) (range : ℕ) → KeepsMap u v → pins_on v range ≡ pins_on u range → look_at x range ≡ look_at w range → IsPassed v w range → IsPassed u x range
+pub IsPassed-same : (u v w x : MapView) (range : ℕ) → KeepsMap u v → pins_on v range ≡ pins_on u range → look_at x range ≡ look_at w range → IsPassed v w range → IsPassed u x range
 IsPassed-same u v w x range k e l b = record { noted = b.noted; at = l ∙ b.at; own = b.own ∙ e; passes = passes-same u v b.noted.own b.noted.word k b.passes }
 
 pub Tried-free : (v : MapView) (range : ℕ) (w : MapView) → range < length v.ranges.looks → Looks v range words.Free w → Tried v range None w
@@ -121,7 +117,7 @@ pub free-on : (s t u : Stand) (from range : ℕ) → from ≤ range → KeepsMap
 free-on s t u from range low k e others before (h, o, b) =
     (h ∙ e, others-next s.map t.map from range u.map low others o, passed-next s.map t.map from range u.map k e o before b)
 
-freed-after : (u v w : MapView) → KeepsMap u v → IsFreed v w → IsFreed u w
+pub freed-after : (u v w : MapView) → KeepsMap u v → IsFreed v w → IsFreed u w
 freed-after u v w k f = record { file = f.file; known = subst (λ (n : ℕ). f.file < n) k.files f.known; range = f.range; removed = EndsRemoved-after u v w f.file f.range (k.logs f.file) f.removed }
 
 pub IsFreed-kept : (u v w : MapView) → w.ranges.logs ≡ v.ranges.logs → IsFreed u v → IsFreed u w

@@ -1,13 +1,13 @@
 -- What the calls of a board of ranges keep of it.
-use Rattle.std.proofs.Common.{◌≡◌, ◌∙◌, ap, sym, refl, subst, ℕ, zero, suc, ◌+◌, ◌<◌, ◌≤◌, true, false, List, [], ◌∷◌, ◌++◌, length, slice_set, slice_index_or, get_or, Option, None, Some, arith, append_assoc}
+use Rattle.std.proofs.Common.{◌≡◌, ◌∙◌, ap, sym, refl, subst, ℕ, zero, suc, true, List, [], ◌∷◌, ◌++◌, length, slice_set, get_or, Option, None, Some, arith, append_assoc}
 use Rattle.std.proofs.lemmas.List.{append-nil}
-use Rattle.std.proofs.lemmas.Grind.{common_steps, elements}
+use Rattle.std.proofs.lemmas.Grind.{common_steps}
 use Rattle.page_map.specs.declared.pages.Mode.{Mode}
 use Rattle.page_map.specs.declared.pages.Mode.TheVariants as modes
 use Rattle.page_map.specs.declared.ranges.LogEntry.{LogEntry}
 use Rattle.page_map.specs.declared.ranges.Target.{Target}
-use Rattle.page_map.specs.Board.{MapView, Hands, log_at}
-use Rattle.range_tree.specs.Ranges.{IsAtLeast, is_enough, Becomes, pinned_in, pins_on, IsButTable, KeepsHeld, with_tree, with_moves, with_more, taken, tree_of, tree_slot, removal, looked, Enters, Leaves}
+use Rattle.page_map.specs.Board.{MapView, log_at}
+use Rattle.range_tree.specs.Ranges.{IsAtLeast, is_enough, Becomes, pinned_in, KeepsHeld, with_moves, with_more, taken, tree_of, tree_slot, removal, Enters, Leaves}
 use Rattle.guest_wire.specs.Keeps.{Begins}
 use Rattle.guest_dax.specs.Stands.{KeepsMap}
 

@@ -12,3 +12,4 @@ pub mod Mapping
 pub mod Upgrading
 pub mod Removing
 pub mod FreeingLaws
+pub mod Counting

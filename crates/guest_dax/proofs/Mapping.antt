@@ -1,21 +1,19 @@
 -- What SETUPMAPPING maps, and what is seen of it.
-use Rattle.std.proofs.Common.{◌≡◌, ◌∙◌, ap, sym, refl, subst, ℕ, ◌+◌, ◌-◌, ◌*◌, ◌/◌, ◌<◌, ◌≤◌, true, false, List, length, get_or, Option, None, Some, Result, Ok, inl, inr, arith}
-use Rattle.std.specs.Prelude.{◌⊎◌, IsSome}
+use Rattle.std.proofs.Common.{◌≡◌, ◌∙◌, ap, sym, refl, subst, ℕ, ◌+◌, ◌-◌, ◌*◌, ◌/◌, ◌<◌, ◌≤◌, true, false, List, length, get_or, Option, None, Some, Result, Ok, inr, arith}
 use Rattle.std.specs.Option.{option_map}
 use Rattle.page_map.specs.declared.pages.Mode.{Mode}
 use Rattle.page_map.specs.declared.pages.Page.{Page}
 use Rattle.page_map.specs.declared.pages.Span.{Span}
-use Rattle.page_map.specs.declared.ranges.LogEntry.{LogEntry}
 use Rattle.page_map.specs.declared.ranges.Target.{Target}
 use Rattle.page_map.specs.Plain.{range_pages}
 use Rattle.page_map.specs.Window.{page_of, page_size, range_size}
-use Rattle.page_map.specs.Board.{MapView, Hands, RangesView, painted, held_at, replaced}
+use Rattle.page_map.specs.Board.{MapView, Hands, RangesView, painted, replaced}
 use Rattle.page_map.proofs.Replacing.{get_or-replaced}
-use Rattle.range_tree.specs.Ranges.{range_count, IsMapped, HoldsRange, IsInHand, target_page, Targets, targeted, tree_slot}
+use Rattle.range_tree.specs.Ranges.{range_count, IsMapped, HoldsRange, IsInHand, target_page, Targets, targeted}
 use Rattle.fuse_codec.specs.declared.messages.Message.{Message}
 use Rattle.fuse_device.specs.State.{World}
 use Rattle.guest_wire.specs.Keeps.{KeepsPages}
-use Rattle.guest_wire.specs.Wires.{WireView, Boards, Sent, world_at}
+use Rattle.guest_wire.specs.Wires.{WireView, Boards, Sent}
 use Rattle.guest_wire.specs.declared.wires.WireError.{WireError}
 use Rattle.guest_dax.specs.declared.refusals.DaxRefusal.{DaxRefusal}
 use Rattle.guest_dax.specs.declared.refusals.DaxRefusal.TheVariants as refusals

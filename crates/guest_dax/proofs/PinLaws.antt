@@ -1,24 +1,22 @@
 -- A pin on what is placed.
-use Rattle.std.proofs.Common.{◌≡◌, ◌≢◌, ◌∙◌, ap, sym, refl, subst, ℕ, ◌+◌, ◌<◌, ◌≤◌, true, false, List, [], ◌∷◌, zero, suc, length, get_or, slice_set, Option, None, Some, inl, inr, arith}
-use Rattle.std.specs.Prelude.{IsSome, slice_get, unwrap_or}
+use Rattle.std.proofs.Common.{◌≡◌, ◌∙◌, ap, sym, refl, subst, ℕ, ◌+◌, ◌<◌, ◌≤◌, true, List, [], ◌∷◌, zero, suc, length, get_or, slice_set, Option, None, Some, inl, inr, arith}
+use Rattle.std.specs.Prelude.{IsSome, unwrap_or}
 use Rattle.std.proofs.lemmas.Bool.{cases_eq}
 use Rattle.std.proofs.lemmas.List.{get_or-set_other}
 use Rattle.std.proofs.lemmas.Grind.{common_steps, elements}
-use Rattle.plain_file.specs.declared.operations.Through.{Through}
 use Rattle.page_map.specs.declared.pages.Mode.{Mode}
 use Rattle.page_map.specs.declared.pages.Mode.TheVariants as modes
 use Rattle.page_map.specs.declared.ranges.LogEntry.{LogEntry}
-use Rattle.page_map.specs.declared.ranges.LogEntry.TheVariants as entries
 use Rattle.page_map.specs.declared.ranges.Placed.{Placed}
 use Rattle.page_map.specs.declared.ranges.Target.{Target}
 use Rattle.page_map.specs.Logs.{Slot, is_writable, placed_at, slot_in}
-use Rattle.page_map.specs.Board.{MapView, Hands, log_at}
+use Rattle.page_map.specs.Board.{MapView, log_at}
 use Rattle.range_tree.specs.Logs.{Finds, is_live}
 use Rattle.range_tree.specs.Ranges.{range_count, pins_on, pinned_in, tree_slot, slot_at, tree_of, slot_target, no_target, with_pin, IsSoundRanges, IsAtLeast, is_enough}
 use Rattle.guest_dax.specs.Stands.{KeepsMap}
 use Rattle.guest_dax.specs.Pinning.{IsPin, IsEnoughPlaced, PinsFound}
 use Rattle.guest_dax.proofs.Keeping.{KeepsMap-same, IsAtLeast-same}
-use Rattle.guest_dax.proofs.Placing.{IsSlotted, slotted-in}
+use Rattle.guest_dax.proofs.Placing.{slotted-in}
 use Rattle.guest_dax.specs.declared.pins.Pinned.{Pinned}
 
 pub tree-slot : (v : MapView) (file range : ℕ) (s : Slot) → v.hands.tree ≡ Some file → slot_in (log_at v file) range ≡ Some s → tree_slot v range ≡ Some s

@@ -1,5 +1,5 @@
 -- What is placed in a sound log is in its range alone, which is one of the window.
-use Rattle.std.proofs.Common.{◌≡◌, ◌∙◌, ap, sym, refl, subst, ℕ, ◌+◌, ◌<◌, ◌==◌, ◌&&◌, Bool, true, false, not, nat_lt, is_none, List, [], ◌∷◌, ◌++◌, map, filter, length, Option, Some, None, option_map, IsSome, inl, inr, arith}
+use Rattle.std.proofs.Common.{◌≡◌, ◌∙◌, ap, sym, refl, subst, ℕ, ◌+◌, ◌<◌, ◌==◌, ◌&&◌, Bool, true, false, not, nat_lt, is_none, List, [], ◌∷◌, ◌++◌, map, filter, length, Option, Some, None, option_map, inl, inr, arith}
 use Rattle.std.specs.Prelude.{IfSome}
 use Rattle.std.specs.List.{find, AllByRecursion}
 use Rattle.std.proofs.lemmas.Bool.{cases_Bool, and_parts}

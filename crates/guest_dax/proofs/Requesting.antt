@@ -1,9 +1,9 @@
 -- The requests of the window over a wire with boards: what is asked for succeeds where the wire is honest.
-use Rattle.std.proofs.Common.{◌≡◌, ◌∙◌, ap, sym, refl, subst, arith, ℕ, ◌+◌, ◌*◌, ◌<◌, ◌≤◌, true, List, length, Option, Some, Result}
+use Rattle.std.proofs.Common.{◌≡◌, ◌∙◌, sym, subst, arith, ℕ, ◌+◌, ◌*◌, ◌<◌, ◌≤◌, true, List, length, Some, Result}
 use Rattle.page_map.specs.declared.pages.Mode.{Mode}
 use Rattle.page_map.specs.Plain.{range_pages}
 use Rattle.page_map.specs.Window.{range_size}
-use Rattle.page_map.specs.Board.{MapView, wiped, painted, may_set}
+use Rattle.page_map.specs.Board.{wiped, painted, may_set}
 use Rattle.range_tree.specs.Ranges.{range_count}
 use Rattle.fuse_codec.specs.declared.replies.Reply.TheVariants as replies
 use Rattle.fuse_device.specs.State.{World}

@@ -1,18 +1,17 @@
 -- Going over the ranges.
-use Rattle.std.proofs.Common.{◌≡◌, ◌≢◌, ◌∙◌, ap, sym, refl, subst, ℕ, ◌+◌, ◌<◌, ◌≤◌, Bool, true, false, true≢false, List, length, get_or, Option, None, Some, inl, inr, arith}
+use Rattle.std.proofs.Common.{◌≡◌, ◌≢◌, ◌∙◌, ap, sym, refl, subst, ℕ, ◌+◌, ◌<◌, ◌≤◌, Bool, true, false, get_or, Option, Some, inl, inr, arith}
 use Rattle.std.specs.Prelude.{IsSome, ◌⊎◌, Result, Ok, Err}
 use Rattle.std.proofs.lemmas.Bool.{cases_eq, cases_lt}
 use Rattle.page_map.specs.Board.{MapView, Hands, Noted}
-use Rattle.range_tree.specs.Ranges.{range_count, pins_on, look_at, is_noted_blocked}
+use Rattle.range_tree.specs.Ranges.{range_count, look_at}
 use Rattle.guest_dax.specs.declared.attempts.Attempt.{Attempt}
 use Rattle.guest_dax.specs.declared.attempts.Attempt.TheVariants as attempts
 use Rattle.guest_dax.specs.Stands.{Stand, KeepsMap, Keeps}
 use Rattle.guest_dax.specs.Looks.{IsBlocked, AllBlocked, looks_from}
-use Rattle.guest_dax.specs.Reclaims.{Searches, Comes, Attempted, RoundKeeps, TookOne, TookAt, FirstRound, is_removed, moving, OthersLooks, Walks, ComesAt, Goes, Caused}
+use Rattle.guest_dax.specs.Reclaims.{Searches, Attempted, RoundKeeps, TookOne, FirstRound, is_removed, OthersLooks, Walks, ComesAt, Goes, Caused}
 use Rattle.guest_dax.specs.declared.refusals.DaxRefusal.{DaxRefusal}
 use Rattle.guest_dax.specs.declared.refusals.DaxRefusal.TheVariants as refusals
 use Rattle.guest_dax.specs.Reclaims.{SecondRound, IsBusy, Acquires}
-use Rattle.plain_file.specs.Counts.{Rose}
 use Rattle.guest_dax.proofs.Keeping.{KeepsMap-same, KeepsMap-both}
 use Rattle.guest_dax.proofs.Searching.{IsBlocked-same}
 

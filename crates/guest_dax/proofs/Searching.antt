@@ -1,19 +1,18 @@
 -- A search for a range: what it leaves of the board.
-use Rattle.std.proofs.Common.{◌≡◌, ◌≢◌, ◌∙◌, ap, sym, refl, subst, ℕ, ◌+◌, ◌<◌, ◌≤◌, ◌==◌, Bool, true, false, true≢false, List, [], ◌∷◌, ◌++◌, length, slice_set, slice_index_or, get_or, Option, None, Some, arith}
+use Rattle.std.proofs.Common.{◌≡◌, ◌≢◌, ◌∙◌, ap, sym, refl, subst, ℕ, ◌<◌, ◌==◌, Bool, true, false, length, get_or, Option, None, Some, arith}
 use Rattle.std.specs.Prelude.{IsSome, ◌⊎◌}
 use Rattle.std.proofs.Common.{inl, inr}
 use Rattle.std.proofs.lemmas.List.{get_or-set_other}
 use Rattle.std.proofs.lemmas.Grind.{common_steps, elements}
 use Rattle.page_map.specs.declared.ranges.RangeWord.{RangeWord}
 use Rattle.page_map.specs.declared.ranges.RangeWord.TheVariants as words
-use Rattle.std.proofs.lemmas.Bool.{eqb-true}
 use Rattle.page_map.specs.declared.pages.Mode.{Mode}
 use Rattle.page_map.specs.Board.{MapView, Noted}
-use Rattle.range_tree.specs.Ranges.{pins_on, pins_in, look_at, Sees, looked, Looks, Leaves, Enters, is_blocked, is_noted_blocked, taken}
+use Rattle.range_tree.specs.Ranges.{pins_on, pins_in, look_at, Sees, looked, Looks, Leaves, Enters, is_blocked, is_noted_blocked}
 use Rattle.guest_dax.specs.Stands.{KeepsMap}
-use Rattle.std.specs.Prelude.{Result, Ok, Err}
+use Rattle.std.specs.Prelude.{Ok, Err}
 use Rattle.page_map.specs.Board.{Hands, log_at}
-use Rattle.range_tree.specs.Ranges.{range_count, Takes, IsTaken, IsRefused, names_file, is_of_file}
+use Rattle.range_tree.specs.Ranges.{Takes, IsTaken, IsRefused, names_file, is_of_file}
 use Rattle.guest_dax.specs.declared.attempts.Attempt.{Attempt}
 use Rattle.guest_dax.specs.declared.attempts.Attempt.TheVariants as attempts
 use Rattle.guest_dax.specs.Looks.{Blocks, IsBlocked}

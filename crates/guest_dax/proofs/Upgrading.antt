@@ -1,23 +1,21 @@
 -- What a board lets be set, upgrades, and places.
-use Rattle.std.proofs.Common.{◌≡◌, ◌≢◌, ◌∙◌, ap, sym, refl, subst, ℕ, ◌+◌, ◌-◌, ◌*◌, ◌/◌, ◌%◌, ◌<◌, ◌≤◌, ◌==◌, Bool, true, false, ◌&&◌, ◌||◌, not, nat_lt, nat_le, List, [], ◌∷◌, ◌++◌, zero, suc, length, map, get_or, slice_set, Option, None, Some, Result, Ok, Err, inl, inr, arith}
-use Rattle.std.specs.Prelude.{IsSome, ◌⊎◌, unwrap_or}
+use Rattle.std.proofs.Common.{◌≡◌, ◌∙◌, ap, sym, refl, subst, ℕ, ◌+◌, ◌*◌, ◌<◌, ◌==◌, Bool, true, false, List, [], ◌∷◌, ◌++◌, zero, suc, length, map, get_or, slice_set, Option, None, Some, Result, Ok, Err, arith}
+use Rattle.std.specs.Prelude.{IsSome, unwrap_or}
 use Rattle.std.specs.List.{list_any, find}
 use Rattle.std.proofs.lemmas.Grind.{common_steps}
 use Rattle.page_map.specs.declared.pages.Mode.{Mode}
 use Rattle.page_map.specs.declared.pages.Mode.TheVariants as modes
-use Rattle.page_map.specs.declared.pages.Span.{Span}
 use Rattle.page_map.specs.declared.ranges.LogEntry.{LogEntry}
 use Rattle.page_map.specs.declared.ranges.LogEntry.TheVariants as entries
 use Rattle.page_map.specs.declared.ranges.Placed.{Placed}
-use Rattle.page_map.specs.declared.ranges.Target.{Target}
 use Rattle.page_map.specs.Logs.{Slot, is_in, is_of, upgraded, next_slots, slots_from, slots_of, slot_in, placed_of, placed_at, is_writable}
 use Rattle.std.specs.Option.{option_map}
-use Rattle.page_map.specs.Board.{MapView, Hands, RangesView, PlacedChunk, may_set, is_moved, is_range, is_at_chunk, is_chunk_of, placed_in, chunk_in, log_at}
-use Rattle.range_tree.specs.Ranges.{Enters, is_enough, range_count, pins_on, tree_of, upgraded_in, upgrade_of, with_more, CanSettle, IsMapped, IsRaisable, settled, moved_of, Becomes, Settles, IsSettled}
+use Rattle.page_map.specs.Board.{MapView, Hands, may_set, is_moved, is_range, is_at_chunk, is_chunk_of, placed_in, chunk_in, log_at}
+use Rattle.range_tree.specs.Ranges.{Enters, is_enough, tree_of, upgraded_in, upgrade_of, with_more, CanSettle, IsMapped, IsRaisable, settled, moved_of, Becomes, Settles, IsSettled}
 use Rattle.page_map.specs.Window.{range_size}
 use Rattle.plain_file.specs.declared.refusals.Memory.{Memory}
 use Rattle.guest_dax.specs.Stands.{Stand, KeepsMap, chunk_span}
-use Rattle.guest_dax.specs.Pinning.{MapsRest, IsEnoughPlaced, IsReadOnly, IsSomeReadOnly, IsUpgraded, UpgradesChunk, MakesEnough}
+use Rattle.guest_dax.specs.Pinning.{MapsRest, IsEnoughPlaced, IsReadOnly, IsSomeReadOnly, UpgradesChunk, MakesEnough}
 use Rattle.guest_dax.specs.declared.refusals.DaxRefusal.{DaxRefusal}
 use Rattle.guest_dax.proofs.Keeping.{KeepsMap-same, Begins-log, length-log, KeepsMap-more}
 use Rattle.guest_dax.proofs.Searching.{had-tree}

@@ -1,6 +1,6 @@
 -- What steps of the boards and requests of the window keep of a wire and two boards.
-use Rattle.std.proofs.Common.{◌≡◌, ◌∙◌, ap, sym, refl, subst, ℕ, ◌+◌, ◌*◌, ◌<◌, ◌≤◌, Bool, true, false, List, [], ◌++◌, length, get_or, Option, None, Some, Result, Ok, Err, inl, inr, arith}
-use Rattle.std.specs.Prelude.{slice_get, ◌⊎◌}
+use Rattle.std.proofs.Common.{◌≡◌, ◌∙◌, ap, sym, refl, subst, ℕ, ◌+◌, ◌<◌, Bool, true, false, List, length, Option, None, Some, Result, Ok, Err, inl, inr, arith}
+use Rattle.std.specs.Prelude.{slice_get}
 use Rattle.plain_file.specs.Board.{Note, FileView, BoardView, FileHands, IsReady, file_at}
 use Rattle.page_map.specs.declared.pages.Mode.{Mode}
 use Rattle.page_map.specs.Board.{MapView, Hands, RangesView}
@@ -10,9 +10,9 @@ use Rattle.fuse_codec.specs.declared.messages.Request.{Request}
 use Rattle.fuse_codec.specs.declared.replies.Reply.TheVariants as replies
 use Rattle.fuse_device.specs.State.{State, World}
 use Rattle.fuse_device.specs.OpenFiles.{HasOpenFile, Succeeds}
-use Rattle.fuse_device.specs.Promises.{CanServe, Needs}
+use Rattle.fuse_device.specs.Promises.{Needs}
 use Rattle.guest_wire.specs.Wires.{WireView, Boards, Sent, boards, world_at, KeepsWire}
-use Rattle.guest_wire.specs.Keeps.{Begins, KeepsFile, KeepsFiles, KeepsPages, KeepsNote, KeepsBoards}
+use Rattle.guest_wire.specs.Keeps.{KeepsFile, KeepsFiles, KeepsPages, KeepsNote, KeepsBoards}
 use Rattle.guest_wire.specs.Requests.{CanAsk, ServesRequest, message, next_number, setup_request, remove_request}
 use Rattle.guest_wire.specs.Answers.{Answers}
 use Rattle.guest_wire.specs.declared.driver.FileRef.{FileRef}
@@ -20,10 +20,9 @@ use Rattle.guest_wire.specs.declared.wires.WireError.{WireError}
 use Rattle.guest_wire.specs.declared.wires.WireRefusal.{WireRefusal}
 use Rattle.guest_wire.specs.declared.wires.WireRefusal.TheVariants as wires
 use Rattle.guest_dax.specs.declared.refusals.DaxRefusal.{DaxRefusal}
-use Rattle.guest_dax.specs.declared.refusals.DaxRefusal.TheVariants as refusals
 use Rattle.guest_dax.specs.Stands.{Stand, stand, KeepsMap, Keeps, IsStill, Stands, IsServing, StaysNoted, StaysFile, StaysFiles, ref_at}
 use Rattle.guest_dax.specs.Reclaims.{Walks, Searches, Caused, IsRefusalOf}
-use Rattle.guest_dax.specs.Causes.{SaysDone, IsAnswered, IsCause}
+use Rattle.guest_dax.specs.Causes.{SaysDone, IsCause}
 use Rattle.guest_dax.proofs.Asking.{IsOfWindow, Succeeded, succeeded}
 use Rattle.guest_dax.proofs.Keeping.{Begins-same, Begins-both, KeepsMap-same, KeepsMap-both, KeepsMap-moves}
 use Rattle.guest_dax.proofs.Searching.{Searches-kept, Searches-leave}

@@ -1,8 +1,6 @@
 -- How a mapped range is freed, and what shows that none can be.
-use Rattle.std.specs.Prelude.{◌≡◌, ℕ, ◌+◌, ◌<◌, ◌≤◌, Bool, true, false, List, [], ◌∷◌, ◌++◌, length, Option, Some, None, Result, Ok, Err}
-use Rattle.page_map.specs.Board.{MapView, Noted, log_at, known_files}
-use Rattle.page_map.specs.declared.ranges.LogEntry.{LogEntry}
-use Rattle.page_map.specs.declared.ranges.LogEntry.TheVariants as entries
+use Rattle.std.specs.Prelude.{◌≡◌, ℕ, ◌+◌, ◌<◌, ◌≤◌, Bool, true, false, Option, Some, None, Result, Ok, Err}
+use Rattle.page_map.specs.Board.{MapView, Noted, known_files}
 use Rattle.page_map.specs.declared.ranges.RangeWord.{RangeWord}
 use Rattle.page_map.specs.declared.ranges.RangeWord.TheVariants as words
 use Rattle.range_tree.specs.Ranges.{range_count, pins_on, look_at, is_noted_blocked}

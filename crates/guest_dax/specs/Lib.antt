@@ -4,3 +4,4 @@ pub mod Reclaims
 pub mod Causes
 pub mod Pinning
 pub mod Freeing
+pub mod Turning

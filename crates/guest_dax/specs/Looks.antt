@@ -1,5 +1,5 @@
 -- The looks that are noted of ranges, and what they show.
-use Rattle.std.specs.Prelude.{◌≡◌, ◌≢◌, ℕ, ◌+◌, ◌<◌, ◌≤◌, true, false, List, [], ◌∷◌, length, replicate, Option, Some, None}
+use Rattle.std.specs.Prelude.{◌≡◌, ◌≢◌, ℕ, ◌+◌, ◌<◌, ◌≤◌, true, false, List, [], ◌∷◌, replicate, Option, Some, None}
 use Rattle.page_map.specs.Board.{MapView, Noted}
 use Rattle.page_map.specs.declared.ranges.RangeWord.{RangeWord}
 use Rattle.page_map.specs.declared.ranges.RangeWord.TheVariants as words

@@ -1,5 +1,5 @@
 -- A pin on a chunk of a file: where it goes through, and what it leaves.
-use Rattle.std.specs.Prelude.{◌≡◌, ℕ, ◌+◌, ◌<◌, true, false, List, [], ◌∷◌, ◌++◌, length, slice_set, Option, Some, None, IsSome, Result, Ok, Err}
+use Rattle.std.specs.Prelude.{◌≡◌, ℕ, ◌+◌, ◌<◌, true, List, [], ◌∷◌, ◌++◌, length, slice_set, Option, Some, None, IsSome, Result, Ok, Err}
 use Rattle.page_map.specs.declared.pages.Mode.{Mode}
 use Rattle.page_map.specs.declared.pages.Mode.TheVariants as modes
 use Rattle.page_map.specs.declared.ranges.LogEntry.{LogEntry}
@@ -40,7 +40,7 @@ pub record IsReadOnly (log : List LogEntry) (chunk range : ℕ) : Type 0 where
 abbrev pub IsSomeReadOnly : List LogEntry → ℕ → Type 0
 IsSomeReadOnly log chunk = (range : ℕ) × IsReadOnly log chunk range
 
--- What `pin_chunk` answers and leaves. None comes exactly where the tree hadn't the chunk, and then nothing was sent.
+-- What `pin_chunk` answers and leaves. None comes exactly where the tree hadn't the chunk.
 abbrev pub PinsChunk : Stand → ℕ → ℕ → Mode → Result (Option Pinned) DaxRefusal → Stand → Type 0
 PinsChunk old file chunk mode (Ok None) new = (new.map.hands ≡ old.map.hands) × (placed_at (log_at new.map file) chunk ≡ None)
 PinsChunk old file chunk mode (Ok (Some p)) new = (new.map.hands ≡ with_one old.map p.range old.map.hands.moves) × IsPin new.map file chunk mode p

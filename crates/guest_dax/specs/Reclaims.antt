@@ -1,5 +1,5 @@
 -- How a range is taken for a guest, and what shows that none can be.
-use Rattle.std.specs.Prelude.{◌≡◌, ◌≢◌, ℕ, ◌+◌, ◌<◌, ◌≤◌, Bool, true, false, List, [], ◌∷◌, ◌++◌, length, Option, Some, None, ◌⊎◌, IsSome, Result, Ok, Err}
+use Rattle.std.specs.Prelude.{◌≡◌, ◌≢◌, ℕ, ◌+◌, ◌<◌, ◌≤◌, Bool, true, false, List, [], ◌∷◌, ◌++◌, length, Some, None, ◌⊎◌, IsSome, Result, Ok, Err, ◌-◌, ◌^◌}
 use Rattle.plain_file.specs.Counts.{Rose}
 use Rattle.page_map.specs.Board.{MapView, Hands, known_files, log_at}
 use Rattle.page_map.specs.declared.ranges.LogEntry.{LogEntry}
@@ -129,6 +129,7 @@ pub record Forgets (old new : MapView) : Type 0 where
   pub logs : new.ranges.logs ≡ old.ranges.logs
   pub looks : NoLooks new
   pub rounds : new.ranges.rounds ≡ old.ranges.rounds
+  pub later : old.ranges.sweeps ≤ 2 ^ 64 - 1 → old.ranges.sweeps ≤ new.ranges.sweeps
 
 -- the noted looks are answered, and stay noted; or memory was wanted, and none is noted
 abbrev pub IsBusy : MapView → DaxRefusal → MapView → Type 0

@@ -1,5 +1,5 @@
 -- What the calls of a guest's ranges ask of the wire and the boards, and what they keep of them.
-use Rattle.std.specs.Prelude.{◌≡◌, ℕ, ◌+◌, ◌*◌, ◌<◌, ◌≤◌, true, false, List, length, slice_get, slice_index_or, Option, Some, None, IfSome, ◌⊎◌}
+use Rattle.std.specs.Prelude.{◌≡◌, ℕ, ◌+◌, ◌*◌, ◌<◌, ◌≤◌, true, false, List, length, slice_get, slice_index_or, Option, Some, None, ◌⊎◌}
 use Rattle.plain_file.specs.Board.{Note, FileView, BoardView, IsReady, file_at}
 use Rattle.page_map.specs.declared.pages.Mode.{Mode}
 use Rattle.page_map.specs.declared.pages.Span.{Span}

@@ -142,8 +142,15 @@ where
         self.walk(rt, alloc, 0, start)
     }
 
-    /// Moves one range: one that is free, or else one that is mapped without pins, which is taken from
-    /// its tree and unmapped.
+    /// Moves one range that this board has no pin on: one that is free, or else one that is mapped without
+    /// pins. No look is noted afterwards, but after `Busy`.
+    ///
+    /// # Errors
+    ///
+    /// `Busy` comes where it took none, with one look per range in order of ranges: each shows a range that
+    /// is moving by another guest, or pinned, and was noted with the pins that the board had there before.
+    /// `Errno`, `BadReply` and `WireFault` come by what came of the one request, and never over an honest
+    /// wire. `Memory` comes where an allocation was refused. After each no range is moved.
     pub fn acquire<T: Wait>(&mut self, rt: &T, alloc: Global) -> Result<(), DaxRefusal>
         requires stands { Stands (stand (W.wire self.old.driver.wire) (F.board self.old.files) (R.map self.old.ranges)) self.old.refs }
         requires ranges { 0 < range_count (R.map self.old.ranges) }

@@ -1,4 +1,4 @@
-ghost use Rattle.std.specs.Prelude.{◌≡◌, ◌<◌, ◌≤◌, ℕ, true, false, None, IfOk, IfErr, length};
+ghost use Rattle.std.specs.Prelude.{◌≡◌, ◌<◌, ◌≤◌, ◌-◌, ◌^◌, ℕ, true, false, None, IfOk, IfErr, length};
 ghost use Rattle.page_map.specs.Board.{Hands, MapView};
 ghost use Rattle.range_tree.specs.Ranges.{range_count};
 ghost use Rattle.guest_dax.specs.Stands.{stand, Stands, Keeps};
@@ -115,15 +115,13 @@ where
         self.free_walk(rt, alloc, 0, start)
     }
 
-    /// Frees one range that is mapped without pins: takes it from its tree, unmaps it by REMOVEMAPPING, and
-    /// settles it free. It goes over the ranges once, from behind the range that was reclaimed last, and
-    /// passes over those that are free. `false` comes exactly where it took none: one look per range is
-    /// noted then, each of which shows a range that is free, moving, or pinned. After every other answer
-    /// no look is noted.
+    /// Frees one range that is mapped without pins: what is seen of its file's log ends with its removal
+    /// then. `false` comes exactly where it took none: one look per range is noted then, each of which shows
+    /// a range that is free, moving by another guest, or pinned. After every other answer no look is noted.
     ///
     /// # Errors
     ///
-    /// As [`acquire`](Dax::acquire), but for `Busy`. The range is free then.
+    /// As [`acquire`](Dax::acquire), but for `Busy`.
     pub fn reclaim_one<T: Wait>(&mut self, rt: &T, alloc: Global) -> Result<bool, DaxRefusal>
         requires stands { Stands (stand (W.wire self.old.driver.wire) (F.board self.old.files) (R.map self.old.ranges)) self.old.refs }
         requires tree { (R.map self.old.ranges).hands.tree ≡ None }
@@ -132,6 +130,7 @@ where
         ensures keeps { Keeps (stand (W.wire self.old.driver.wire) (F.board self.old.files) (R.map self.old.ranges)) (stand (W.wire self.new.driver.wire) (F.board self.new.files) (R.map self.new.ranges)) }
         ensures reclaims { Reclaims (stand (W.wire self.old.driver.wire) (F.board self.old.files) (R.map self.old.ranges)) result (stand (W.wire self.new.driver.wire) (F.board self.new.files) (R.map self.new.ranges)) }
         ensures rounds { (R.map self.new.ranges).ranges.rounds ≡ (R.map self.old.ranges).ranges.rounds }
+        ensures later { (R.map self.old.ranges).ranges.sweeps ≤ 2 ^ 64 - 1 → (R.map self.old.ranges).ranges.sweeps ≤ (R.map self.new.ranges).ranges.sweeps }
         ensures cause { IfErr result (λ e. IsCause W.wire W.gives self.old.driver.wire self.old.driver.unique e self.new.driver.wire self.new.driver.unique) }
         ensures quiet { IfOk result (λ freed. freed ≡ false → self.new.driver ≡ self.old.driver) }
         ensures refs { self.new.refs ≡ self.old.refs }

@@ -1,4 +1,4 @@
-use Rattle.std.proofs.Common.{◌≡◌, ◌∙◌, ap, sym, subst, refl, ℕ, ◌<◌, take, arith}
+use Rattle.std.proofs.Common.{arith}
 use Rattle.guest_dax.specs.Looks.{looks_from}
 use Rattle.guest_dax.proofs.Forgetting.{looks-next}
 use Rattle.guest_dax.proofs.acquires.noted_looks.Goals as goal

@@ -1,6 +1,5 @@
-use Rattle.std.proofs.Common.{◌≡◌, ◌∙◌, ap, sym, subst, true, false, arith, length}
+use Rattle.std.proofs.Common.{◌∙◌, ap, arith}
 use Rattle.page_map.specs.Board.{MapView, Hands}
-use Rattle.range_tree.specs.Ranges.{range_count}
 use Rattle.guest_dax.proofs.Searching.{Attempted-parts, Attempted-left, Attempted-refused, Searches-enter, hands-enter, refused-one, had-tree, taken-ok, refused-err}
 use Rattle.guest_dax.proofs.attempts.take_mapped.Goals as goal
 

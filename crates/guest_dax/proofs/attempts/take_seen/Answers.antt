@@ -1,4 +1,4 @@
-use Rattle.std.proofs.Common.{◌≡◌, ap, sym, subst, true, false, arith}
+use Rattle.std.proofs.Common.{arith}
 use Rattle.guest_dax.proofs.Searching.{Attempted-took, Attempted-refused, taken-ok, refused-err}
 use Rattle.guest_dax.proofs.attempts.take_seen.Goals as goal
 

@@ -1,4 +1,4 @@
-use Rattle.std.proofs.Common.{◌≡◌, ap, sym, subst, true, false, arith}
+use Rattle.std.proofs.Common.{arith}
 use Rattle.guest_dax.proofs.Searching.{Attempted-after, Attempted-refused, Searches-look, hands-look, free-unblocked}
 use Rattle.guest_dax.proofs.attempts.try_free.Goals as goal
 

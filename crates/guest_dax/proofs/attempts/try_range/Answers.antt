@@ -1,7 +1,4 @@
-use Rattle.std.proofs.Common.{◌≡◌, ap, sym, subst, true, false, refl, arith}
-use Rattle.std.proofs.lemmas.Grind.{common_steps}
-use Rattle.page_map.specs.declared.ranges.RangeWord.{RangeWord}
-use Rattle.range_tree.specs.Ranges.{is_blocked, is_of_file}
+use Rattle.std.proofs.Common.{arith}
 use Rattle.guest_dax.proofs.Searching.{Attempted-after, Attempted-refused, Searches-look, hands-look, free-unblocked, unpinned-unblocked, mapped-file}
 use Rattle.guest_dax.proofs.attempts.try_range.Goals as goal
 

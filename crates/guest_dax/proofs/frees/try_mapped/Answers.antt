@@ -1,8 +1,5 @@
-use Rattle.std.proofs.Common.{◌≡◌, ap, sym, subst, true, false, refl, arith}
-use Rattle.std.proofs.lemmas.Grind.{common_steps}
-use Rattle.page_map.specs.declared.ranges.RangeWord.{RangeWord}
-use Rattle.range_tree.specs.Ranges.{is_blocked, is_of_file}
-use Rattle.guest_dax.proofs.Searching.{Attempted-after, Attempted-refused, Searches-look, hands-look, free-unblocked, unpinned-unblocked, mapped-file}
+use Rattle.std.proofs.Common.{arith}
+use Rattle.guest_dax.proofs.Searching.{Attempted-after, Attempted-refused, Searches-look, hands-look, unpinned-unblocked, mapped-file}
 use Rattle.guest_dax.proofs.FreeingLaws.{Tried-free}
 use Rattle.guest_dax.proofs.frees.try_mapped.Goals as goal
 

@@ -1,4 +1,4 @@
-use Rattle.std.proofs.Common.{◌≡◌, ◌∙◌, ap, Some}
+use Rattle.std.proofs.Common.{◌∙◌, ap, Some}
 use Rattle.page_map.specs.declared.pages.Mode.{Mode}
 use Rattle.guest_dax.proofs.pins.needs_upgrade.Goals as goal
 

@@ -1,4 +1,4 @@
-use Rattle.std.proofs.Common.{◌≡◌, ◌∙◌, sym}
+use Rattle.std.proofs.Common.{◌∙◌, sym}
 use Rattle.guest_dax.proofs.PinLaws.{pin-had-raw, PinsFound-some}
 use Rattle.guest_dax.proofs.pins.pin_found.Goals as goal
 

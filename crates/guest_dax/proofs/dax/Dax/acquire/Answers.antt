@@ -1,5 +1,4 @@
-use Rattle.std.proofs.Common.{◌≡◌, ◌∙◌, ap, sym, subst, refl, ℕ, ◌<◌, true, false, None, Some, List, length, Option, arith}
-use Rattle.guest_dax.specs.Stands.{stand, Stand, Keeps}
+use Rattle.guest_dax.specs.Stands.{stand}
 use Rattle.guest_dax.proofs.Keeping.{KeepsMap-both}
 use Rattle.guest_dax.proofs.Walking.{Keeps-map, Keeps-both}
 use Rattle.guest_dax.proofs.Rounds.{FirstRound-keeps, busy-acquires}

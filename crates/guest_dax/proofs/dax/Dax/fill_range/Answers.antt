@@ -1,6 +1,6 @@
-use Rattle.std.proofs.Common.{◌≡◌, ◌∙◌, ap, sym, refl, subst, ℕ, false, None, Some, length, inl, arith}
-use Rattle.page_map.specs.Board.{MapView, Hands}
-use Rattle.guest_dax.specs.Stands.{stand, Stand, Keeps, KeepsMap}
+use Rattle.std.proofs.Common.{◌∙◌, ap, sym, subst, arith}
+use Rattle.page_map.specs.Board.{MapView}
+use Rattle.guest_dax.specs.Stands.{stand, KeepsMap}
 use Rattle.guest_dax.proofs.Walking.{Keeps-both, Keeps-map}
 use Rattle.guest_dax.proofs.Upgrading.{may-set-moved, KeepsMap-settled, settled-ok, settled-err, filled, can-settle}
 use Rattle.guest_dax.proofs.Keeping.{KeepsMap-same}

@@ -1,8 +1,8 @@
-use Rattle.std.proofs.Common.{◌≡◌, ◌∙◌, ap, sym, subst, refl, ℕ, None, Some}
+use Rattle.std.proofs.Common.{subst, refl}
 use Rattle.guest_dax.specs.declared.attempts.Attempt.{Attempt}
 use Rattle.guest_dax.specs.declared.attempts.Attempt.TheVariants as attempts
-use Rattle.guest_dax.specs.Stands.{stand, Stand}
-use Rattle.guest_dax.specs.Reclaims.{Walks, Attempted}
+use Rattle.guest_dax.specs.Stands.{stand}
+use Rattle.guest_dax.specs.Reclaims.{Attempted}
 use Rattle.guest_dax.proofs.Walking.{Walks-same, Walks-both, Walks-searches, Walks-free}
 use Rattle.guest_dax.proofs.FreeingLaws.{Before, at-removed, took-hands, took-others, again-hands, again-others}
 use Rattle.guest_dax.proofs.dax.Dax.free_at.Goals as goal

@@ -1,4 +1,4 @@
-use Rattle.std.proofs.Common.{◌≡◌, ◌<◌, ◌≤◌, ℕ, ◌+◌}
+use Rattle.std.proofs.Common.{◌≡◌, ◌+◌}
 use Rattle.guest_dax.specs.Stands.{stand}
 use Rattle.guest_dax.specs.Reclaims.{Walks, OthersLooks}
 use Rattle.guest_dax.proofs.dax.Dax.free_at.Given as goal

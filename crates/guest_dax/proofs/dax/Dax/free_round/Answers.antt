@@ -1,5 +1,4 @@
-use Rattle.std.proofs.Common.{◌≡◌, ◌∙◌, ℕ, Bool}
-use Rattle.guest_dax.specs.Stands.{stand, Stand}
+use Rattle.guest_dax.specs.Stands.{stand}
 use Rattle.guest_dax.proofs.Walking.{Walks-both}
 use Rattle.guest_dax.proofs.FreeingLaws.{free-part}
 use Rattle.guest_dax.proofs.dax.Dax.free_round.Goals as goal

@@ -1,7 +1,7 @@
-use Rattle.std.proofs.Common.{◌≡◌, ◌∙◌, ap, sym, subst, refl, ℕ, ◌<◌, true, None, Some, List, length, Option, inl, inr, arith}
-use Rattle.guest_dax.specs.Stands.{stand, Stand}
+use Rattle.std.proofs.Common.{◌∙◌, refl, arith}
+use Rattle.guest_dax.specs.Stands.{stand}
 use Rattle.guest_dax.proofs.Walking.{Walks-same, Walks-both}
-use Rattle.guest_dax.proofs.FreeingLaws.{free-on, free-done, free-refused}
+use Rattle.guest_dax.proofs.FreeingLaws.{free-on, free-done}
 use Rattle.guest_dax.proofs.dax.Dax.free_walk.Goals as goal
 
 pub loop-range-init : goal.loop-range-init

@@ -1,4 +1,4 @@
-use Rattle.std.proofs.Common.{◌≡◌, ◌<◌, ◌≤◌, ℕ, ◌+◌}
+use Rattle.std.proofs.Common.{◌≡◌, ◌<◌, ◌≤◌, ℕ}
 use Rattle.guest_dax.specs.Stands.{stand}
 use Rattle.guest_dax.specs.Freeing.{IsPassed}
 use Rattle.guest_dax.specs.Reclaims.{Walks, OthersLooks}

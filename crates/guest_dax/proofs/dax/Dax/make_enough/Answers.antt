@@ -1,7 +1,7 @@
-use Rattle.std.proofs.Common.{◌≡◌, ◌∙◌, ap, sym, refl, ℕ, None, Some}
-use Rattle.guest_dax.specs.Stands.{stand, Stand}
+use Rattle.std.proofs.Common.{refl}
+use Rattle.guest_dax.specs.Stands.{stand}
 use Rattle.guest_dax.proofs.Walking.{Keeps-same}
-use Rattle.guest_dax.proofs.Upgrading.{needs-placed, enough-after, enough-none, found-at, needs-not-enough, not-enough-at}
+use Rattle.guest_dax.proofs.Upgrading.{needs-placed, enough-after, enough-none, not-enough-at}
 use Rattle.guest_dax.proofs.dax.Dax.make_enough.Goals as goal
 
 pub upgrade_at-requires-clause-placed : goal.upgrade_at-requires-clause-placed

@@ -1,13 +1,13 @@
-use Rattle.std.proofs.Common.{◌≡◌, ◌∙◌, sym, refl, ℕ, true, false, true≢false, None, Some, Result, Ok, Err, inr}
-use Rattle.page_map.specs.Board.{MapView, painted}
+use Rattle.std.proofs.Common.{◌∙◌, sym, refl, true≢false, Ok, Err}
+use Rattle.page_map.specs.Board.{painted}
 use Rattle.page_map.specs.declared.ranges.Target.{Target}
-use Rattle.guest_wire.specs.Wires.{Boards, boards}
+use Rattle.guest_wire.specs.Wires.{boards}
 use Rattle.guest_wire.specs.Requests.{next_number, message, setup_request}
-use Rattle.guest_dax.specs.Stands.{stand, Stand, chunk_span}
+use Rattle.guest_dax.specs.Stands.{stand, chunk_span}
 use Rattle.guest_dax.specs.Reclaims.{Walks}
 use Rattle.guest_dax.proofs.Requesting.{Asks-setup}
 use Rattle.guest_dax.proofs.Walking.{Walks-asked, Caused-asked, CanAsk-setup, Keeps-both, Keeps-map, not-true}
-use Rattle.guest_dax.proofs.Mapping.{IsInHand-pages, count-pages, MapsRest-pages, MapsRest-target, KeepsMap-target, setup-mapped, unseen-unmapped, Caused-undone, cause-undone}
+use Rattle.guest_dax.proofs.Mapping.{IsInHand-pages, count-pages, MapsRest-pages, MapsRest-target, KeepsMap-target, setup-mapped, unseen-unmapped, Caused-undone}
 use Rattle.guest_dax.proofs.dax.Dax.map_chunk.Goals as goal
 
 pub setup-sent-requires : goal.setup-sent-requires

@@ -1,6 +1,4 @@
-use Rattle.std.proofs.Common.{◌≡◌, ◌∙◌, ap, sym, refl, ℕ, false, None, Some, length, inl, arith}
-use Rattle.page_map.specs.Board.{MapView, Hands}
-use Rattle.guest_dax.specs.Stands.{stand, Stand, Keeps}
+use Rattle.guest_dax.specs.Stands.{stand}
 use Rattle.guest_dax.proofs.Keeping.{KeepsMap-enter, KeepsMap-leave}
 use Rattle.guest_dax.proofs.Walking.{Keeps-both, Keeps-map}
 use Rattle.guest_dax.proofs.dax.Dax.place.Goals as goal

@@ -1,6 +1,5 @@
-use Rattle.std.proofs.Common.{◌≡◌, ◌∙◌, ap, sym, subst, refl, ℕ, ◌<◌, true, None, Some, List, length, Option, arith}
-use Rattle.guest_dax.specs.Stands.{stand, Stand}
-use Rattle.guest_dax.specs.Reclaims.{Walks}
+use Rattle.std.proofs.Common.{◌∙◌, refl}
+use Rattle.guest_dax.specs.Stands.{stand}
 use Rattle.guest_dax.proofs.Walking.{Walks-same, Walks-both, Walks-searches}
 use Rattle.guest_dax.proofs.Rounds.{OthersLooks-step}
 use Rattle.guest_dax.proofs.dax.Dax.reclaim_at.Goals as goal

@@ -1,5 +1,5 @@
-use Rattle.std.proofs.Common.{◌≡◌, ◌∙◌, ap, sym, refl, ℕ, true, false}
-use Rattle.guest_dax.specs.Stands.{stand, Stand, Keeps}
+use Rattle.std.proofs.Common.{◌∙◌}
+use Rattle.guest_dax.specs.Stands.{stand}
 use Rattle.guest_dax.proofs.Walking.{Keeps-map, Keeps-both}
 use Rattle.guest_dax.proofs.FreeingLaws.{IsFreed-kept}
 use Rattle.guest_dax.proofs.dax.Dax.reclaim_one.Goals as goal

@@ -1,7 +1,4 @@
-use Rattle.std.proofs.Common.{◌≡◌, ◌∙◌, ap, sym, subst, refl, ℕ, ◌<◌, true, None, Some, List, length, Option, Result, Ok, Err, Bool, false, arith}
-use Rattle.guest_dax.specs.Stands.{stand, Stand}
-use Rattle.guest_dax.specs.Reclaims.{Goes, SecondRound, Walks}
-use Rattle.guest_dax.specs.declared.refusals.DaxRefusal.{DaxRefusal}
+use Rattle.guest_dax.specs.Stands.{stand}
 use Rattle.guest_dax.proofs.Walking.{Walks-both}
 use Rattle.guest_dax.proofs.Rounds.{second-part}
 use Rattle.guest_dax.proofs.dax.Dax.second_round.Goals as goal

@@ -1,16 +1,13 @@
-use Rattle.std.proofs.Common.{◌≡◌, ◌∙◌, ap, sym, refl, ℕ, ◌+◌, ◌*◌, ◌<◌, ◌≤◌, Result, None, Some, Err, length, arith}
-use Rattle.page_map.specs.Plain.{range_pages}
+use Rattle.std.proofs.Common.{◌∙◌, ap, refl, ◌*◌, None, Err}
 use Rattle.page_map.specs.Window.{range_size}
 use Rattle.page_map.specs.Board.{MapView, Hands, RangesView, wiped}
-use Rattle.range_tree.specs.Ranges.{range_count}
-use Rattle.guest_wire.specs.Wires.{Boards, boards, world_at}
+use Rattle.guest_wire.specs.Wires.{boards}
 use Rattle.guest_wire.specs.Requests.{next_number, message, remove_request}
-use Rattle.guest_wire.specs.declared.wires.WireRefusal.{WireRefusal}
-use Rattle.guest_dax.specs.Stands.{stand, Stand, IsServing}
+use Rattle.guest_dax.specs.Stands.{stand}
 use Rattle.guest_dax.specs.Reclaims.{Walks}
 use Rattle.guest_dax.proofs.Searching.{hands-leave, looks-leave}
 use Rattle.guest_dax.proofs.Requesting.{Asks-remove}
-use Rattle.guest_dax.proofs.Walking.{Walks-both, Walks-free, Walks-leave, Walks-asked, Caused-asked, CanAsk-remove, Asks}
+use Rattle.guest_dax.proofs.Walking.{Walks-both, Walks-free, Walks-leave, Walks-asked, Caused-asked, CanAsk-remove}
 use Rattle.guest_dax.proofs.dax.Dax.unmap.Goals as goal
 
 pub remove-sent-requires : goal.remove-sent-requires

@@ -1,9 +1,9 @@
-use Rattle.std.proofs.Common.{◌≡◌, ◌∙◌, ap, sym, refl, ℕ, None, Some, length, inr, arith}
+use Rattle.std.proofs.Common.{◌∙◌, ap, refl, inr, arith}
 use Rattle.page_map.specs.declared.pages.Mode.TheVariants as modes
 use Rattle.page_map.specs.declared.ranges.Placed.{Placed}
 use Rattle.page_map.specs.Logs.{Slot}
 use Rattle.page_map.specs.Board.{MapView, Hands}
-use Rattle.guest_dax.specs.Stands.{stand, Stand, Keeps}
+use Rattle.guest_dax.specs.Stands.{stand}
 use Rattle.guest_dax.proofs.Walking.{Keeps-both, Keeps-map}
 use Rattle.guest_dax.proofs.Placing.{slotted-in}
 use Rattle.guest_dax.proofs.PinLaws.{pin-had}

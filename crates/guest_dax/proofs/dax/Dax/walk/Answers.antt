@@ -1,6 +1,5 @@
-use Rattle.std.proofs.Common.{◌≡◌, ◌∙◌, ap, sym, subst, refl, ℕ, ◌<◌, true, None, Some, List, length, Option, inl, inr, arith}
-use Rattle.guest_dax.specs.Stands.{stand, Stand}
-use Rattle.guest_dax.specs.Reclaims.{Walks}
+use Rattle.std.proofs.Common.{◌∙◌, refl, arith}
+use Rattle.guest_dax.specs.Stands.{stand}
 use Rattle.guest_dax.proofs.Walking.{Walks-same, Walks-both}
 use Rattle.guest_dax.proofs.Rounds.{walk-on}
 use Rattle.guest_dax.proofs.dax.Dax.walk.Goals as goal
