@@ -1,11 +1,11 @@
 -- Each deed that is allowed keeps the rule.
-use Rattle.std.proofs.Common.{◌≡◌, ◌≢◌, ◌⊎◌, ℕ, ◌+◌, ◌*◌, ◌<◌, ◌≤◌, List, [], ◌∷◌, length, set, true, Option, refl, sym, ap, ◌∙◌, subst, ⊎_elim, inl, inr, arith, length-set, get_or-set_other, eq-eqb, ne_eqb}
+use Rattle.std.proofs.Common.{◌≡◌, ◌≢◌, ◌⊎◌, ℕ, ◌+◌, ◌*◌, ◌<◌, ◌≤◌, List, [], ◌∷◌, map, length, set, true, Option, refl, sym, ap, ◌∙◌, subst, ⊎_elim, inl, inr, arith, length-set, get_or-set_other, eq-eqb, ne_eqb}
 use mathlib.Core.Logic.{dite}
 use mathlib.Core.Option as maybe
 use mathlib.Core.Option.{some, some-injective}
 use native.Mathlib.Decide.{ℕ_discrete}
 use lib.ListN.{get_elem?}
-use lib.Seq.{map-set}
+use lib.Seq.{map-set, map-set_same}
 use Rattle.atomic_table.specs.Table.{State}
 use Rattle.atomic_table.proofs.Lists.{at_set}
 use Rattle.plain_file.specs.declared.operations.First.{First}
@@ -16,9 +16,9 @@ use Rattle.files_core.specs.Shown.{Shown, shown}
 use Rattle.files_core.proofs.Places.{at_put}
 use Rattle.files_core.proofs.AllKeep.{files_keep}
 use Rattle.files_core.proofs.Others.{others_see}
-use Rattle.file_share.specs.Table.{ShowsWords, home, root, guests, unseen, Given, unused, opened, out, back, View, in_list, part, seeing}
+use Rattle.file_share.specs.Table.{ShowsWords, home, root, guests, unseen, Given, unused, opened, out, back, View, in_list, part, first_of, seeing}
 use Rattle.file_share.specs.Shows.{Move, acts, did_of, Fits, Roster, Shows}
-use Rattle.file_share.proofs.Places.{in_range, map_blank, row_same, seen_grows}
+use Rattle.file_share.proofs.Places.{in_range, map_blank, first_kept, row_same, seen_grows}
 
 abbrev pub St : Type 0
 St = State (Option Past) View
@@ -73,11 +73,15 @@ module _ (firsts : List First) (s : St) (r : Shows firsts s) (id : ℕ) (v : Vie
   long : length (after r.files v.guest d) ≡ length r.files
   long = length-set r.files d.at (made (file r.files d.at) v.guest d.deed)
 
+  begun_same : map first_of (after r.files v.guest d) ≡ map first_of r.files
+  begun_same = map-set_same first_of r.files d.at (made (file r.files d.at) v.guest d.deed) no_file (first_kept (file r.files d.at) v.guest d.deed)
+
   views_after : (j : ℕ) (u : View) → get_elem? (set s.views id (seeing v d (after r.files v.guest d))) j ≡ some u → u.live ≡ true → Fits (acts v.guest d ∷ r.trace) (after r.files v.guest d) r.owner r.numbers j u
   views_after j u a l = ⊎_elim
       (λ (t : (j ≡ id) × (seeing v d (after r.files v.guest d) ≡ u)). subst (λ (z : ℕ × View). Fits (acts v.guest d ∷ r.trace) (after r.files v.guest d) r.owner r.numbers z.0 z.1) (λ i. (sym t.0 i, t.1 i)) record {
         small = me.small;
         owned = me.owned;
+        begun = me.begun ∙ sym begun_same;
         parts = refl;
         did = ap (λ ds. d ∷ ds) me.did ∙ sym (rw (eq-eqb v.guest v.guest refl) refl);
         given = me.given;
@@ -87,6 +91,7 @@ module _ (firsts : List First) (s : St) (r : Shows firsts s) (id : ℕ) (v : Vie
       (λ (t : (j ≢ id) × (get_elem? s.views j ≡ some u)). let them = r.views j u t.1 l in let ne : u.guest ≢ v.guest = (λ e. t.0 (sym them.owned ∙ (ap r.owner e ∙ me.owned))) in record {
         small = them.small;
         owned = them.owned;
+        begun = them.begun ∙ sym begun_same;
         parts = them.parts ∙ sym (frame u.guest them.small ne);
         did = them.did ∙ sym (others_did u.guest ne);
         given = them.given;

@@ -1,11 +1,11 @@
 -- Lists read at a place, and what a deed does to the parts of the guests.
-use Rattle.std.proofs.Common.{◌≡◌, ◌≢◌, ℕ, zero, suc, ◌<◌, ◌≤◌, List, [], ◌∷◌, map, length, set, get_or, Some, None, Option, refl, sym, ap, subst, arith, get_or-set_same, get_or-set_other, length-append}
+use Rattle.std.proofs.Common.{◌≡◌, ◌≢◌, ℕ, zero, suc, ◌<◌, ◌≤◌, List, [], ◌∷◌, map, length, set, get_or, refl, sym, ap, subst, arith, get_or-set_same, get_or-set_other}
 use mathlib.Core.Logic.{dite}
 use mathlib.Core.Option.{some, some-ne-none, some-injective}
 use native.Mathlib.Decide.{ℕ_discrete}
 use lib.ListN.{get_elem?}
-use Rattle.plain_file.specs.declared.operations.Entry.{Entry}
-use Rattle.files_core.specs.Files.{Row, FileState, blank, row, file, with_entry, whole, with_row, entered, seen_to, leased, noted, unleased, Deed, take_turn, set_size, give_turn, lease, note_size, unlease, set_bar, clear_bar, made}
+use Rattle.files_core.proofs.Keeps.{length_with}
+use Rattle.files_core.specs.Files.{Row, FileState, blank, row, file, whole, with_row, entered, seen_to, leased, noted, unleased, Deed, take_turn, set_size, give_turn, lease, note_size, unlease, set_bar, clear_bar, made}
 
 module _ {A : Type 0} where
   pub get_at : (l : List A) (i : ℕ) (a d : A) → get_elem? l i ≡ some a → get_or l i d ≡ a
@@ -39,6 +39,22 @@ at_file [] f h = absurd (omega arith)
 at_file (x ∷ xs) zero h = refl
 at_file (x ∷ xs) (suc f) h = at_file xs f (omega arith)
 
+pub get_map : {A B : Type 0} (F : A → B) (l : List A) (i : ℕ) (d : A) → get_or (map F l) i (F d) ≡ F (get_or l i d)
+get_map F [] i d = refl
+get_map F (x ∷ xs) zero d = refl
+get_map F (x ∷ xs) (suc i) d = get_map F xs i d
+
+-- a deed leaves what the file began with
+pub first_kept : (c : FileState) (g : ℕ) (d : Deed) → (made c g d).first ≡ c.first
+first_kept c g take_turn = refl
+first_kept c g (set_size e) = refl
+first_kept c g give_turn = refl
+first_kept c g lease = refl
+first_kept c g note_size = refl
+first_kept c g unlease = refl
+first_kept c g set_bar = refl
+first_kept c g clear_bar = refl
+
 -- ---- rows
 
 pub row_here : (c : FileState) (g : ℕ) (r : Row) → g < length c.rows → row (with_row c g r) g ≡ r
@@ -56,10 +72,6 @@ row_same c g n note_size ne = row_else c g n (noted c.size (row c g)) ne
 row_same c g n unlease ne = row_else c g n (unleased (row c g)) ne
 row_same c g n set_bar ne = refl
 row_same c g n clear_bar ne = refl
-
-length_with : (h : List Entry) (o : Option Entry) → length h ≤ length (with_entry h o)
-length_with h None = omega arith
-length_with h (Some e) = omega (arith, length-append h (e ∷ []))
 
 module _ (c : FileState) (g : ℕ) (near : g < length c.rows) (seen : (row c g).seen ≤ length c.history) where
   seen_here : (r : Row) → (row c g).seen ≤ r.seen → (row c g).seen ≤ (row (with_row c g r) g).seen

@@ -9,7 +9,7 @@ use Rattle.files_core.specs.Files.{FileState, blank, row, file, with_row, FileDe
 use Rattle.files_core.specs.Good.{GoodFiles}
 use Rattle.files_core.specs.Laws.{Begins}
 use Rattle.files_core.specs.Shown.{Shown, shown}
-use Rattle.file_share.specs.Table.{ShowsWords, home, root, guests, unseen, Given, unused, opened, out, back, View, in_list, part}
+use Rattle.file_share.specs.Table.{ShowsWords, home, root, guests, unseen, Given, unused, opened, out, back, View, in_list, part, first_of}
 
 -- ---- what led here
 
@@ -51,6 +51,7 @@ pub record Fits (trace : List Move) (files : List FileState) (owner : ℕ → �
   pub small : v.guest < guests
   -- each number has one seat
   pub owned : owner v.guest ≡ j
+  pub begun : v.firsts ≡ map first_of files
   pub parts : v.files ≡ shown v.guest files
   pub did : v.did ≡ did_of v.guest trace
   pub given : v.guest ≢ root → get_elem? numbers v.guest ≡ some out

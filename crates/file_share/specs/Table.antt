@@ -1,9 +1,12 @@
 -- What a table of files is to show: its words, what lies at home, and what a pass knows.
 use Rattle.std.specs.Prelude.{◌≡◌, ℕ, ◌+◌, ◌*◌, List, [], ◌∷◌, map, replicate, slice_set, slice_index, slice_index_or, true, false, Bool, Option, Some, None}
 use mathlib.Core.Option as maybe
+use Rattle.plain_file.specs.declared.operations.Entry.{Entry}
 use Rattle.plain_file.specs.declared.operations.First.{First}
+use Rattle.plain_file.specs.declared.operations.Op.TheVariants as ops
+use Rattle.plain_file.specs.declared.operations.Way.TheVariants as ways
 use Rattle.plain_file.specs.History.{Past}
-use Rattle.files_core.specs.Files.{FileState, leases, FileDeed}
+use Rattle.files_core.specs.Files.{FileState, no_file, leases, FileDeed}
 use Rattle.files_core.specs.Shown.{Shown, shown}
 
 -- ---- words
@@ -62,11 +65,13 @@ pub data Given : Type 0 where
   out : Given
   back : List Shown → Given
 
--- What a pass knows: its guest's number, what it is shown of each file, what two passes knew before they were joined (right
--- after that), its own deeds (the newest first), and, where it is the first pass, what has become of each number.
+-- What a pass knows: its guest's number, what each file began with, what it is shown of each file, what two passes knew
+-- before they were joined (right after that), its own deeds (the newest first), and, where it is the first pass, what has
+-- become of each number.
 pub record View : Type 0 where
   pub live : Bool
   pub guest : ℕ
+  pub firsts : List First
   pub files : List Shown
   pub before : List Shown
   pub beside : List Shown
@@ -80,14 +85,25 @@ in_list ms f = slice_index_or ms f unseen
 abbrev pub part : View → ℕ → Shown
 part v f = in_list v.files f
 
+abbrev pub first_of : FileState → First
+first_of c = c.first
+
+-- what the file began with, as a pass knows it
+abbrev pub first_at : View → ℕ → First
+first_at v f = slice_index_or v.firsts f (first_of no_file)
+
 -- what a pass knows once its deed has made this of the files
 abbrev pub seeing : View → FileDeed → List FileState → View
 seeing v d cs = record v { files = shown v.guest cs; before = []; beside = []; did = d ∷ v.did }
 
 -- the first pass of a table that begins with these files
 abbrev pub opener : List First → View
-opener firsts = record { live = true; guest = root; files = map (λ _. unseen) firsts; before = []; beside = []; did = []; numbers = slice_set (replicate guests unused) root opened }
+opener firsts = record { live = true; guest = root; firsts = firsts; files = map (λ _. unseen) firsts; before = []; beside = []; did = []; numbers = slice_set (replicate guests unused) root opened }
 
 -- a pass that was joined to another
 abbrev pub nobody : View
-nobody = record { live = false; guest = 0; files = []; before = []; beside = []; did = []; numbers = [] }
+nobody = record { live = false; guest = 0; firsts = []; files = []; before = []; beside = []; did = []; numbers = [] }
+
+-- the entry of no operation, for a proof to name before it names one
+abbrev pub no_entry : Entry
+no_entry = record { guest = 0; call = 0; op = ops.Size; way = ways.Req }

@@ -1,8 +1,11 @@
 //! Files' histories that several guests share on one table of words, a turn at a time.
 //!
-//! What is here: what the table shows, and the rule that it does.
+//! Here are the table's rule, that every deed keeps it, and the steps in which a pass takes a file's turn with its
+//! contents, tells the size after an entry, gives the turn back, and notes a size. Not here yet: opening a table, splitting
+//! and joining passes, closing it, and leases and bars.
 #![tactic(auto)]
 
 mod rule;
+mod steps;
 
 pub use rule::{Files, View};

@@ -1,6 +1,6 @@
-use atomic_table::TableRule;
+use atomic_table::{Play, TableRule};
 use plain_file::{Body, First, List};
-use std::marker::Model;
+use std::marker::{Brand, Model, PhantomData};
 
 /// What a pass knows. It is a value of contracts alone: nobody makes one.
 pub struct View;
@@ -23,4 +23,51 @@ impl TableRule<Option<Body>, View, List<First>> for Files {
     ghost holds = { Shows };
 
     ghost first = { opener };
+}
+
+/// What a step tells that its operands don't: the entry that is applied.
+pub(crate) trait Naming {
+    ghost use Rattle.plain_file.specs.declared.operations.Entry.{Entry};
+
+    ghost entry: { Entry };
+}
+
+impl Naming for Brand {
+    ghost use Rattle.file_share.specs.Table.{no_entry};
+
+    ghost entry = { no_entry };
+}
+
+pub(crate) struct TakeTurn;
+
+impl Play<Option<Body>, View> for TakeTurn {
+    ghost use Rattle.file_share.specs.Steps.{tries_turn};
+
+    ghost then = { tries_turn };
+}
+
+pub(crate) struct SetSize<J> {
+    naming: PhantomData<J>,
+}
+
+impl<J: Naming> Play<Option<Body>, View> for SetSize<J> {
+    ghost use Rattle.file_share.specs.Steps.{sets};
+
+    ghost then = { sets J.entry };
+}
+
+pub(crate) struct GiveTurn;
+
+impl Play<Option<Body>, View> for GiveTurn {
+    ghost use Rattle.file_share.specs.Steps.{gives_turn};
+
+    ghost then = { gives_turn };
+}
+
+pub(crate) struct NoteSize;
+
+impl Play<Option<Body>, View> for NoteSize {
+    ghost use Rattle.file_share.specs.Steps.{notes_size};
+
+    ghost then = { notes_size };
 }
