@@ -1,3 +1,6 @@
 pub mod Places
 pub mod Moved
 pub mod Stepping
+pub mod Remade
+pub mod Joining
+pub mod Ending

@@ -39,7 +39,7 @@ is_its : (g : ℕ) (o : Option ℕ) → is_guest g o ≡ true → o ≡ Some g
 is_its g None e = absurd (true≢false (sym e))
 is_its g (Some h) e = ap (λ n. Some n) (eqb-true h g e)
 
-is_not : (g : ℕ) (o : Option ℕ) → is_guest g o ≡ false → o ≢ Some g
+pub is_not : (g : ℕ) (o : Option ℕ) → is_guest g o ≡ false → o ≢ Some g
 is_not g o off is = true≢false (sym (ap (is_guest g) is ∙ eq-eqb g g refl) ∙ off)
 
 module _ (v : View) (cs : List FileState) (parts : v.files ≡ shown v.guest cs) where

@@ -1,3 +1,4 @@
 pub mod Table
 pub mod Shows
 pub mod Steps
+pub mod Passes

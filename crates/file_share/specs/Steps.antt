@@ -5,7 +5,6 @@ use Rattle.atomic_table.specs.Table.{Me, Step, rest}
 use Rattle.atomic_table.specs.declared.shared.Seat.{Seat}
 use Rattle.plain_file.specs.declared.operations.Entry.{Entry}
 use Rattle.plain_file.specs.History.{Past}
-use Rattle.plain_file.specs.Limits.{max_files}
 use Rattle.files_core.specs.Files.{FileState, file, Deed, take_turn, set_size, give_turn, note_size, on, Allowed, after}
 use Rattle.files_core.specs.Good.{GoodFiles}
 use Rattle.files_core.specs.Shown.{shown}
@@ -57,7 +56,7 @@ Chair = Seat (Option Past) View
 pub record IsAt (t : TableId) (s : Chair) (f : ℕ) : Type 0 where
   pub same : s.table_id ≡ t
   pub wide : t.words ≡ 3 * t.slots + 1
-  pub few : t.slots ≤ max_files
+  pub few : t.slots ≤ 64
   pub inside : f < t.slots
   pub live : s.me.0.live ≡ true
 

@@ -1,11 +1,12 @@
 //! Files' histories that several guests share on one table of words, a turn at a time.
 //!
 //! Here are the table's rule, that every deed keeps it, and the steps in which a pass takes a file's turn with its
-//! contents, tells the size after an entry, gives the turn back, and notes a size. Not here yet: opening a table, splitting
-//! and joining passes, closing it, and leases and bars.
+//! contents, tells the size after an entry, gives the turn back, and notes a size; passes are split and joined, and the
+//! table is closed. Not here yet: opening a table, and leases and bars.
 #![tactic(auto)]
 
 mod rule;
+mod share;
 mod steps;
 
 pub use rule::{Files, View};

@@ -1,4 +1,4 @@
-use atomic_table::{Play, TableRule};
+use atomic_table::{Join, Play, Split, TableRule};
 use plain_file::{Body, First, List};
 use std::marker::{Brand, Model, PhantomData};
 
@@ -25,15 +25,20 @@ impl TableRule<Option<Body>, View, List<First>> for Files {
     ghost first = { opener };
 }
 
-/// What a step tells that its operands don't: the entry that is applied.
+/// What a step tells that its operands don't: the number that is given out, and the entry that is applied.
 pub(crate) trait Naming {
+    ghost use Rattle.std.specs.Prelude.{ℕ};
     ghost use Rattle.plain_file.specs.declared.operations.Entry.{Entry};
+
+    ghost guest: { ℕ };
 
     ghost entry: { Entry };
 }
 
 impl Naming for Brand {
     ghost use Rattle.file_share.specs.Table.{no_entry};
+
+    ghost guest = { 0 };
 
     ghost entry = { no_entry };
 }
@@ -70,4 +75,35 @@ impl Play<Option<Body>, View> for NoteSize {
     ghost use Rattle.file_share.specs.Steps.{notes_size};
 
     ghost then = { notes_size };
+}
+
+pub(crate) struct Compare;
+
+impl Play<Option<Body>, View> for Compare {
+    ghost use Rattle.file_share.specs.Passes.{compared};
+
+    ghost then = { compared };
+}
+
+pub(crate) struct Cut<J> {
+    naming: PhantomData<J>,
+}
+
+impl<J: Naming> Split<View> for Cut<J> {
+    ghost use Rattle.file_share.specs.Passes.{child, parent};
+
+    ghost left = { λ v. parent v J.guest };
+
+    ghost right = { λ v. child v J.guest };
+}
+
+pub(crate) struct Merge;
+
+impl Join<View> for Merge {
+    ghost use Rattle.file_share.specs.Passes.{joined};
+    ghost use Rattle.file_share.specs.Table.{nobody};
+
+    ghost both = { joined };
+
+    ghost spent = { nobody };
 }
