@@ -4,3 +4,4 @@ pub mod Stepping
 pub mod Remade
 pub mod Joining
 pub mod Ending
+pub mod Opening

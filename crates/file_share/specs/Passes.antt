@@ -1,9 +1,11 @@
 -- Passes are split and joined, and a table is closed.
-use Rattle.std.specs.Prelude.{◌≡◌, ◌≢◌, ℕ, List, [], ◌∷◌, length, map, slice_set, true, eqb, leb, cond, slice_get, Some}
+use Rattle.std.specs.Prelude.{◌≡◌, ◌≢◌, ℕ, List, [], ◌∷◌, length, map, slice_set, true, eqb, leb, cond, slice_get, Option, Some}
 use Rattle.std.specs.List.{filter}
 use mathlib.Core.Option.{some}
 use lib.ListN.{get_elem?}
 use Rattle.plain_file.specs.declared.operations.Entry.{Entry}
+use Rattle.plain_file.specs.declared.operations.First.{First}
+use Rattle.plain_file.specs.History.{Past, new_past}
 use Rattle.files_core.specs.declared.rows.Note.{Note}
 use Rattle.files_core.specs.Good.{NoteOk}
 use Rattle.files_core.specs.Laws.{Begins}
@@ -63,3 +65,12 @@ AllIn v = (v.guest ≡ root) × ((n : ℕ) → get_elem? v.numbers n ≢ some ou
 -- than its guest had seen when it noted it, no more than that saw at its next turn.
 abbrev pub NotesHold : View → Type 0
 NotesHold v = (f n k : ℕ) (ms : List Shown) (m : Note) → get_elem? v.numbers n ≡ some (back ms) → slice_get (in_list ms f).notes k ≡ Some m → NoteOk (first_at v f) (part v f).seen m
+
+-- the words of files to which nothing was done yet
+abbrev pub start_words : List First → List ℕ
+start_words [] = []
+start_words (x ∷ xs) = 0 ∷ x.size ∷ 0 ∷ start_words xs
+
+-- the contents that lie at home then
+abbrev pub start_body : First → Option Past
+start_body first = Some (new_past first)
