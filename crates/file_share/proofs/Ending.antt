@@ -36,7 +36,7 @@ get_append [] ys k e at = subst (λ (z : ℕ). slice_get ys z ≡ Some e) (omega
 get_append (x ∷ xs) ys k e at = let m : ℕ = length xs + k in let same : suc m ≡ length (x ∷ xs) + k = omega arith in subst (λ (z : ℕ). slice_get (x ∷ (xs ++ ys)) z ≡ Some e) same (get_append xs ys k e at)
 
 -- beyond what the guest has seen there is nothing of its own
-own_take : (guest n : ℕ) (h : List Entry) → n ≤ length h → Within guest n h → own guest h ≡ own guest (take n h)
+pub own_take : (guest n : ℕ) (h : List Entry) → n ≤ length h → Within guest n h → own guest h ≡ own guest (take n h)
 own_take guest n h l w = let split = take-append-drop n h in let len = length-take-le n h l in
     let none_there : own guest (drop n h) ≡ [] = none_own guest (drop n h) (λ k e at is. let lt = w (length (take n h) + k) e (subst (λ z. slice_get z (length (take n h) + k) ≡ Some e) split (get_append (take n h) (drop n h) k e at)) is in omega arith) in
     ap (own guest) (sym split) ∙ (filter-append (λ (e : Entry). eqb e.guest guest) (take n h) (drop n h) ∙ (ap (λ z. own guest (take n h) ++ z) none_there ∙ append-nil (own guest (take n h))))
@@ -48,7 +48,7 @@ take_all h n l all = go (drop n h) (take-append-drop n h)
     go [] is = sym (append-nil (take n h)) ∙ is
     go (x ∷ rest) is = absurd (let len = length-take-le n h l in let lt = all (length (take n h) + 0) x (subst (λ z. slice_get z (length (take n h) + 0) ≡ Some x) is (get_append (take n h) (x ∷ rest) 0 x refl)) in omega arith)
 
-at_rest : (o : Option Entry) (t : Option ℕ) (h : List Entry) → t ≡ None → IfSome o (λ e. t ≡ Some e.guest) → with_entry h o ≡ h
+pub at_rest : (o : Option Entry) (t : Option ℕ) (h : List Entry) → t ≡ None → IfSome o (λ e. t ≡ Some e.guest) → with_entry h o ≡ h
 at_rest None t h none is = refl
 at_rest (Some e) t h none is = absurd (let x : None ≡ Some e.guest = sym none ∙ is in cc)
 

@@ -5,3 +5,4 @@ pub mod Remade
 pub mod Joining
 pub mod Ending
 pub mod Opening
+pub mod Knowing

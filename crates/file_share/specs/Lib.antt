@@ -2,3 +2,4 @@ pub mod Table
 pub mod Shows
 pub mod Steps
 pub mod Passes
+pub mod Known
