@@ -15,7 +15,7 @@ use Rattle.files_core.proofs.Places.{at_put}
 use Rattle.file_share.specs.Table.{View, in_list, part, past_of, first_of, first_at, guests, root, unseen, opener}
 use Rattle.file_share.specs.Steps.{Does, Always, Chair, NoTurn}
 use Rattle.file_share.specs.Passes.{own, just_seen, child, merged, joined}
-use Rattle.file_share.specs.Known.{known, IsDeed, whole_seen, Holds, InHand, Sound, Entered, Left}
+use Rattle.file_share.specs.Known.{known, IsDeed, whole_seen, Holds, InHand, Sound, Entered, Left, TookIn}
 use Rattle.file_share.proofs.Places.{get_map, row_here}
 use Rattle.file_share.proofs.Stepping.{part_is, first_is, applied_is}
 use Rattle.file_share.proofs.Ending.{own_take, at_rest}
@@ -188,3 +188,6 @@ sound_joined s t w hand file' g ok free is = record { live = ap (λ m. m.0.live)
     go : (o : Option Past) → InHand s file' o → InHand t file' o
     go None h = ((λ f. ap (λ m. (part m.0 f).turn) is ∙ (merged_turn s.me.0.files w.files f ∙ h.0 f)), ap (λ m. m.1) is ∙ h.1)
     go (Some p) h = absurd (true≢false (sym h.turn ∙ free file'))
+
+pub took_in : (s t o : Chair) → t.table_id ≡ s.table_id → t.me ≡ (joined s.me.0 o.me.0, s.me.1) → ((f : ℕ) → Begins (part s.me.0 f).seen (part t.me.0 f).seen × Begins (part o.me.0 f).seen (part t.me.0 f).seen) → TookIn (known s) (known o) (known t)
+took_in s t o table is b = record { table = table; view = ap (λ m. m.0) is; begins = b }

@@ -1,5 +1,7 @@
 -- A pass as its callers see it.
 use Rattle.std.specs.Prelude.{◌≡◌, ◌≢◌, ℕ, ◌<◌, ◌≤◌, List, [], ◌∷◌, true, false, Option, Some, None, IfSome}
+use mathlib.Core.Option.{some}
+use lib.ListN.{get_elem?}
 use Rattle.atomic_table.specs.Seated.{TableId}
 use Rattle.plain_file.specs.declared.operations.Entry.{Entry}
 use Rattle.plain_file.specs.declared.operations.First.{First}
@@ -9,7 +11,7 @@ use Rattle.files_core.specs.Good.{size_of}
 use Rattle.files_core.specs.Laws.{Begins}
 use Rattle.file_share.specs.Table.{View, part, first_at, guests, opener}
 use Rattle.file_share.specs.Steps.{Does, Always, Chair, NoTurn}
-use Rattle.file_share.specs.Passes.{own}
+use Rattle.file_share.specs.Passes.{own, joined}
 
 -- the table that it belongs to, and what it knows
 pub record Known : Type 0 where
@@ -64,3 +66,18 @@ pub record Left (f : ℕ) (v w : View) : Type 0 where
 
 abbrev pub first_pass : TableId → List First → Known
 first_pass t firsts = record { table = t; view = opener firsts }
+
+-- The first pass took the other in: of what both had seen of a file the longer is kept, and what the other knew, by its
+-- number.
+pub record TookIn (p o q : Known) : Type 0 where
+  pub table : q.table ≡ p.table
+  pub view : q.view ≡ joined p.view o.view
+  pub begins : (f : ℕ) → Begins (part p.view f).seen (part q.view f).seen × Begins (part o.view f).seen (part q.view f).seen
+
+-- the contents of the files as the pass knows them
+abbrev pub AsSeen : ℕ → View → List (Option Past) → Type 0
+AsSeen count v bodies = (f : ℕ) → f < count → get_elem? bodies f ≡ some (Some record { first = first_at v f; history = (part v f).seen })
+
+-- no turn, lease or bar
+abbrev pub IsIdle : View → Type 0
+IsIdle v = (f : ℕ) → ((part v f).turn ≡ false) × ((part v f).leases ≡ 0) × ((part v f).bar ≡ false)

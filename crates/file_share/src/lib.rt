@@ -1,15 +1,17 @@
 //! Files' histories that several guests share on one table of words, a turn at a time.
 //!
-//! A `FileTable` has the files, and each thread has a `FilePass` on it. Here are the table's rule, that every deed keeps
-//! it, and these calls: a table is opened with its first pass, and a pass waits for a file's turn and gives it back. Of the
-//! other calls only the steps on the table are here, for this crate alone: the size after an entry is told, a size is
-//! noted, passes are split and joined, and a table is closed. Not here yet: leases and bars.
+//! A `FileTable` has the files, and each thread has a `FilePass` on it. A table is opened with its first pass, from which
+//! others are split and to which they are joined, and at last it is closed. A pass waits for a file's turn and gives it
+//! back. Telling the size after an entry and noting a size are here as steps on the table alone, with no call of a pass on
+//! top. Not here yet: leases and bars.
 #![tactic(auto)]
 
+mod closed;
 mod rule;
 mod share;
 mod steps;
 mod table;
 
+pub use closed::ClosedFiles;
 pub use rule::{Files, View};
 pub use table::{FilePass, FileTable};

@@ -3,9 +3,11 @@ ghost use Rattle.plain_file.specs.File.{max_file};
 ghost use Rattle.files_core.specs.Files.{file as file_at, give_turn, take_turn};
 ghost use Rattle.file_share.specs.Table.{guests, part, past_of};
 ghost use Rattle.file_share.specs.Steps.{DoesAt, IsAt, NoTurn};
-ghost use Rattle.file_share.specs.Known.{Entered, IsDeed, Left, first_pass};
+ghost use Rattle.file_share.specs.Passes.{Account, AllIn, IsOut, MayGive, NotesHold, child, parent};
+ghost use Rattle.file_share.specs.Known.{AsSeen, Entered, IsDeed, IsIdle, Left, TookIn, first_pass};
 
-use crate::share::{Board, open};
+use crate::closed::ClosedFiles;
+use crate::share::{Board, close, cut, merge, open};
 use crate::steps::{Chair, Top, put_turn, try_turn};
 use plain_file::{Body, First, List, Memory};
 use std::alloc::Global;
@@ -110,5 +112,63 @@ impl FileTable {
             guest: 32,
         };
         Ok((FileTable { table }, pass))
+    }
+
+    /// A pass for a guest's number that was not given yet. It has seen what this one had, which is the
+    /// table's first and has no turn.
+    pub fn split(&self, pass: &mut FilePass, guest: u32) -> FilePass
+        requires table { pass.old.table ≡ self.now }
+        requires free { NoTurn pass.old.view }
+        requires guest { (guest < guests) × MayGive pass.old.view guest }
+        ensures kept { pass.new ≡ record pass.old { view = parent pass.old.view guest } }
+        ensures given { result ≡ record { table = pass.old.table; view = child pass.old.view guest } }
+    {
+        let seat = cut(&self.table.shared, &mut pass.seat, guest);
+        FilePass {
+            seat,
+            hand: None,
+            file: 0,
+            guest,
+        }
+    }
+
+    /// Takes back a pass that was given out, and keeps what it knew. Neither has a turn, and the one
+    /// that goes has no lease or bar.
+    pub fn join(&self, pass: &mut FilePass, other: FilePass)
+        requires table { (pass.old.table ≡ self.now) × (other.table ≡ self.now) }
+        requires free { NoTurn pass.old.view × IsIdle other.view }
+        requires guest { IsOut pass.old.view other.view.guest }
+        ensures { TookIn pass.old other pass.new }
+    {
+        let FilePass {
+            seat,
+            hand: _hand,
+            file: _,
+            guest: _,
+        } = other;
+        merge(&self.table.shared, &mut pass.seat, seat);
+    }
+
+    /// Ends the table. The pass is its first, with every other in and no turn, lease or bar: it has seen
+    /// every history whole, the entries of each number are those that its pass had seen, and each note
+    /// that a joined pass left holds.
+    pub fn close(self, pass: FilePass) -> ClosedFiles
+        requires table { pass.table ≡ self }
+        requires free { IsIdle pass.view }
+        requires guest { AllIn pass.view }
+        ensures seen { AsSeen self.slots pass.view result }
+        ensures account { Account pass.view.numbers (λ f. (part pass.view f).seen) }
+        ensures notes { NotesHold pass.view }
+    {
+        let FilePass {
+            seat,
+            hand: _hand,
+            file: _,
+            guest: _,
+        } = pass;
+        let FileTable { table } = self;
+        ClosedFiles {
+            closed: close(table, seat),
+        }
     }
 }
