@@ -36,7 +36,7 @@ none_applied : (o : Option Entry) (t : Option ℕ) → t ≡ None → IfSome o (
 none_applied None t none is = refl
 none_applied (Some e) t none is = absurd (unheld t e.guest none is)
 
-length_with : (h : List Entry) (o : Option Entry) → length h ≤ length (with_entry h o)
+pub length_with : (h : List Entry) (o : Option Entry) → length h ≤ length (with_entry h o)
 length_with h None = omega arith
 length_with h (Some e) = omega (arith, length-append h (e ∷ []))
 
@@ -47,13 +47,13 @@ in_whole h (Some x) t is k e at = ⊎_elim (λ b. inl b) (λ b. inr (is ∙ ap (
 
 -- ---- leases
 
-leases_set : (c : FileState) (g : ℕ) (r : Row) → g < length c.rows → leases (with_row c g r) + (row c g).leases ≡ leases c + r.leases
+pub leases_set : (c : FileState) (g : ℕ) (r : Row) → g < length c.rows → leases (with_row c g r) + (row c g).leases ≡ leases c + r.leases
 leases_set c g r near = sum_by-set leases_of c.rows g r blank near
 
-same_leases : (c : FileState) (g : ℕ) (r : Row) → g < length c.rows → r.leases ≡ (row c g).leases → leases (with_row c g r) ≡ leases c
+pub same_leases : (c : FileState) (g : ℕ) (r : Row) → g < length c.rows → r.leases ≡ (row c g).leases → leases (with_row c g r) ≡ leases c
 same_leases c g r near e = let s = leases_set c g r near in omega arith
 
-row_below : (c : FileState) (g : ℕ) → g < length c.rows → (row c g).leases ≤ leases c
+pub row_below : (c : FileState) (g : ℕ) → g < length c.rows → (row c g).leases ≤ leases c
 row_below c g near = let s = leases_set c g blank near in let z : blank.leases ≡ 0 = refl in omega arith
 
 -- ---- sizes
@@ -118,14 +118,14 @@ row_put : (c : FileState) (g : ℕ) (r : Row) (i : ℕ) → g < length c.rows �
 row_put c g r i near = at_put c.rows g i r blank near
 
 -- every row is as it was, but the guest's
-rows_put : (c : FileState) (guests : ℕ) (t : Option ℕ) (h : List Entry) (z g : ℕ) (r : Row) → g < length c.rows → RowOk t h z g r → ((i : ℕ) → i < guests → i ≢ g → RowOk t h z i (row c i))
+pub rows_put : (c : FileState) (guests : ℕ) (t : Option ℕ) (h : List Entry) (z g : ℕ) (r : Row) → g < length c.rows → RowOk t h z g r → ((i : ℕ) → i < guests → i ≢ g → RowOk t h z i (row c i))
     → (i : ℕ) → i < guests → RowOk t h z i (row (with_row c g r) i)
 rows_put c guests t h z g r near mine others i few = ⊎_elim
     (λ e. subst (λ (x : Row). RowOk t h z i x) (sym e.1) (subst (λ (n : ℕ). RowOk t h z n r) (sym e.0) mine))
     (λ e. subst (λ (x : Row). RowOk t h z i x) (sym e.1) (others i few e.0)) (row_put c g r i near)
 
 -- the notes of every guest are right, where those of one are new
-notes_put : (c : FileState) (first : First) (h : List Entry) (g : ℕ) (r : Row) → g < length c.rows → ((k : ℕ) (n : Note) → slice_get r.notes k ≡ Some n → NoteOk first h n)
+pub notes_put : (c : FileState) (first : First) (h : List Entry) (g : ℕ) (r : Row) → g < length c.rows → ((k : ℕ) (n : Note) → slice_get r.notes k ≡ Some n → NoteOk first h n)
     → ((i k : ℕ) (n : Note) → slice_get (row c i).notes k ≡ Some n → NoteOk first h n)
     → (i k : ℕ) (n : Note) → slice_get (row (with_row c g r) i).notes k ≡ Some n → NoteOk first h n
 notes_put c first h g r near mine old i k n at = ⊎_elim

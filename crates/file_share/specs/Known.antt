@@ -1,0 +1,83 @@
+-- A pass as its callers see it.
+use Rattle.std.specs.Prelude.{◌≡◌, ◌≢◌, ℕ, ◌<◌, ◌≤◌, List, [], ◌∷◌, true, false, Option, Some, None, IfSome}
+use mathlib.Core.Option.{some}
+use lib.ListN.{get_elem?}
+use Rattle.atomic_table.specs.Seated.{TableId}
+use Rattle.plain_file.specs.declared.operations.Entry.{Entry}
+use Rattle.plain_file.specs.declared.operations.First.{First}
+use Rattle.plain_file.specs.History.{Past}
+use Rattle.files_core.specs.Files.{Deed, with_entry}
+use Rattle.files_core.specs.Good.{size_of}
+use Rattle.files_core.specs.Laws.{Begins}
+use Rattle.file_share.specs.Table.{View, part, first_at, guests, opener}
+use Rattle.file_share.specs.Steps.{Does, Always, Chair, NoTurn}
+use Rattle.file_share.specs.Passes.{own, joined}
+
+-- the table that it belongs to, and what it knows
+pub record Known : Type 0 where
+  pub table : TableId
+  pub view : View
+
+abbrev pub known : Chair → Known
+known s = record { table = s.table_id; view = s.me.0 }
+
+-- The call was this deed, and nothing else.
+pub record IsDeed (f : ℕ) (d : Deed) (p q : Known) : Type 0 where
+  pub table : q.table ≡ p.table
+  pub does : Does f d Always p.view q.view
+
+-- what the pass has seen of the file, and what it applied in this turn
+abbrev pub whole_seen : View → ℕ → List Entry
+whole_seen v f = with_entry (part v f).seen (part v f).applied
+
+-- the pass has the turn of this file alone, and its contents
+pub record Holds (s : Chair) (f : ℕ) (p : Past) : Type 0 where
+  pub turn : (part s.me.0 f).turn ≡ true
+  pub alone : (i : ℕ) → i ≢ f → (part s.me.0 i).turn ≡ false
+  pub taken : s.me.1 ≡ (f, None) ∷ []
+  pub first : p.first ≡ first_at s.me.0 f
+  pub history : p.history ≡ whole_seen s.me.0 f
+
+-- what is in hand is what the pass has the turn of
+abbrev pub InHand : Chair → ℕ → Option Past → Type 0
+InHand s f None = NoTurn s.me.0 × (s.me.1 ≡ [])
+InHand s f (Some p) = Holds s f p
+
+pub record Sound (seat : Chair) (hand : Option Past) (file guest : ℕ) : Type 0 where
+  pub live : seat.me.0.live ≡ true
+  pub guest_is : guest ≡ seat.me.0.guest
+  pub small : guest < guests
+  pub in_hand : InHand seat file hand
+
+-- The turn was taken: the pass sees the whole history, in which its own entries are those that it had seen.
+pub record Entered (f : ℕ) (v w : View) : Type 0 where
+  pub begins : Begins (part v f).seen (part w f).seen
+  pub own_are : own v.guest (part w f).seen ≡ own v.guest (part v f).seen
+  pub turn : (part w f).turn ≡ true
+  pub nothing : (part w f).applied ≡ None
+  -- the size doesn't lie below what was noted under a lease
+  pub noted : IfSome (part v f).noted (λ z. z ≤ size_of (first_at w f) (part w f).seen)
+
+-- The turn was given back: what was applied in it is the newest entry that was seen.
+pub record Left (f : ℕ) (v w : View) : Type 0 where
+  pub seen : (part w f).seen ≡ whole_seen v f
+  pub turn : (part w f).turn ≡ false
+  pub nothing : (part w f).applied ≡ None
+
+abbrev pub first_pass : TableId → List First → Known
+first_pass t firsts = record { table = t; view = opener firsts }
+
+-- The first pass took the other in: of what both had seen of a file the longer is kept, and what the other knew, by its
+-- number.
+pub record TookIn (p o q : Known) : Type 0 where
+  pub table : q.table ≡ p.table
+  pub view : q.view ≡ joined p.view o.view
+  pub begins : (f : ℕ) → Begins (part p.view f).seen (part q.view f).seen × Begins (part o.view f).seen (part q.view f).seen
+
+-- the contents of the files as the pass knows them
+abbrev pub AsSeen : ℕ → View → List (Option Past) → Type 0
+AsSeen count v bodies = (f : ℕ) → f < count → get_elem? bodies f ≡ some (Some record { first = first_at v f; history = (part v f).seen })
+
+-- no turn, lease or bar
+abbrev pub IsIdle : View → Type 0
+IsIdle v = (f : ℕ) → ((part v f).turn ≡ false) × ((part v f).leases ≡ 0) × ((part v f).bar ≡ false)
