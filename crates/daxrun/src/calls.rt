@@ -13,13 +13,13 @@ ghost use Rattle.daxrun.specs.Requests.{IsLive};
 ghost use Rattle.daxrun.specs.Session.{IsOpened, IsOwn, AreOurs, first_at, history_at, done_line};
 
 use crate::requests::{read, size, write};
-use transcript_text::{Line, Numbered};
 use dax_script::Call;
 use guest_wire::{Driver, FileRef, Wire};
 use page_map::PageMap;
 use plain_file::{Answer, FileBoard, List, Memory, PlainFiles, Way};
 use std::alloc::Global;
 use std::sync::Wait;
+use transcript_text::{Line, Numbered};
 
 /// Makes the calls of guest 0 one after another on its open files, each by one request, and tells a line
 /// of each.

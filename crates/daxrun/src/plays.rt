@@ -17,7 +17,6 @@ ghost use Rattle.daxrun.specs.Session.{AreSmall, AreOurs, IsOwn, first_at, histo
 
 use crate::calls::make_calls;
 use crate::sessions::{board_of, start_session};
-use transcript_text::{EntryLine, FilePart, GuestPart, Transcript};
 use dax_script::{Call, FileLine, Script};
 use guest_wire::{Driver, Wire};
 use page_map::PageMap;
@@ -25,6 +24,7 @@ use plain_file::{Entry, First, List, Memory, PlainFiles, Way};
 use std::alloc::Global;
 use std::mem::forget;
 use std::sync::Wait;
+use transcript_text::{EntryLine, FilePart, GuestPart, Transcript};
 
 /// Plays a script that is carried out by a client over a wire to the whole daemon of the script's files,
 /// on which nothing was done, and tells what it did. The guest, where there is one, begins a session,

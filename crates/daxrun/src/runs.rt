@@ -14,7 +14,6 @@ ghost use Rattle.daxrun.specs.Run.{limit, is_script_command, usage_line, refused
 
 use crate::plays::play;
 use crate::sessions::daemon_of;
-use transcript_text::Transcript;
 use dax_host::SoloWire;
 use dax_script::{BadScript, Call, Script, Why, parse};
 use guest_wire::Driver;
@@ -24,7 +23,7 @@ use program_io::{ReadError, Sink, Source, Status, Word, read_all, write_all};
 use std::alloc::Global;
 use std::mem::forget;
 use std::sync::Wait;
-use transcript_text::print;
+use transcript_text::{Transcript, print};
 
 // The most bytes that are read.
 const LIMIT: usize = 16_777_216;

@@ -70,7 +70,7 @@ line_passed input rest passed line after next others at cut more is =
     let front = take passed input ++ (line ++ line_end ∷ []) in
     let whole : input ≡ front ++ after = at.whole ∙ ap (λ r. take passed input ++ r) begun ∙ sym (append_assoc (take passed input) (line ++ line_end ∷ []) after) in
     let long : length front ≡ passed + (length line + 1) =
-        omega (arith, at.within, ap length at.whole, length-append (take passed input) rest, length-append (take passed input) (line ++ line_end ∷ []), length-append line (line_end ∷ [])) in
+    omega (arith, at.within, ap length at.whole, length-append (take passed input) rest, length-append (take passed input) (line ++ line_end ∷ []), length-append line (line_end ∷ [])) in
     let taken : take (passed + (length line + 1)) input ≡ front = ap (take (passed + (length line + 1))) whole ∙ take_at front after (passed + (length line + 1)) long in
     record {
       texts =
@@ -78,5 +78,5 @@ line_passed input rest passed line after next others at cut more is =
           ∙ behind_both (take passed input) (line ++ line_end ∷ []) (texts_round (parts line_end after))
           ∙ ap (λ f. option_map (behind f) (texts_round (parts line_end after))) (sym taken);
       whole = whole ∙ ap (λ f. f ++ after) (sym taken);
-      within = omega (arith, at.within, ap length begun, length-append (line ++ line_end ∷ []) after, length-append line (line_end ∷ []))
+      within = omega (arith, at.within, ap length begun, length-append (line ++ line_end ∷ []) after, length-append line (line_end ∷ []));
     }

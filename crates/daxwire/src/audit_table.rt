@@ -53,8 +53,14 @@ pub const CASES: &[Case] = &[
     // The truncation comes before the read.
     (
         TWO,
-        ("entry 0 1 via 0 1\nentry 1 0 req", "entry 1 0 req\nentry 0 1 via 0 1"),
-        ("1 done 1 bytes 61\nguest 1\n0 done 2", "1 done 2 bytes -\nguest 1\n0 done 1"),
+        (
+            "entry 0 1 via 0 1\nentry 1 0 req",
+            "entry 1 0 req\nentry 0 1 via 0 1",
+        ),
+        (
+            "1 done 1 bytes 61\nguest 1\n0 done 2",
+            "1 done 2 bytes -\nguest 1\n0 done 1",
+        ),
         "legal",
     ),
     // The ranges and the files are the script's.
@@ -62,34 +68,95 @@ pub const CASES: &[Case] = &[
     (TWO, ("file a 0 00", "file b 0 00"), NONE, "rule 1 line 3"),
     (TWO, ("file a 0 00", "file a 1 00"), NONE, "rule 1 line 3"),
     (TWO, ("file a 0 00", "file a 0 01"), NONE, "rule 1 line 3"),
-    (TWO, ("guest 0", "file b 0 00\nguest 0"), NONE, "rule 1 line 8"),
+    (
+        TWO,
+        ("guest 0", "file b 0 00\nguest 0"),
+        NONE,
+        "rule 1 line 8",
+    ),
     (NOTHING, ("file a 0 00\n", ""), NONE, "rule 1 line 3"),
     // The guests are the script's, each with one line for each call.
     (TWO, ("guest 0", "guest 1"), NONE, "rule 2 line 8"),
     (TWO, ("1 done 1", "0 done 1"), NONE, "rule 2 line 10"),
     (TWO, ("1 done 1 bytes 61\n", ""), NONE, "rule 2 line 10"),
-    (TWO, ("guest 1\n", "2 done 2 size 0\nguest 1\n"), NONE, "rule 2 line 11"),
+    (
+        TWO,
+        ("guest 1\n", "2 done 2 size 0\nguest 1\n"),
+        NONE,
+        "rule 2 line 11",
+    ),
     (TWO, ("0 done 2 size 0\n", ""), NONE, "rule 2 line 12"),
-    (TWO, ("guest 1\n0 done 2 size 0\n", ""), NONE, "rule 2 line 11"),
+    (
+        TWO,
+        ("guest 1\n0 done 2 size 0\n", ""),
+        NONE,
+        "rule 2 line 11",
+    ),
     (TWO, ("end", "guest 2\nend"), NONE, "rule 2 line 13"),
     // Each line fits its call.
-    (TWO, ("0 done 0 wrote 1", "0 done 0 bytes 61"), NONE, "rule 3 line 9"),
-    (TWO, ("0 done 0 wrote 1", "0 leased 1"), NONE, "rule 3 line 9"),
-    (TWO, ("0 done 2 size 0", "0 busy pp"), NONE, "rule 3 line 12"),
-    (TWO, ("0 done 2 size 0", "0 done 2 wrote 0"), NONE, "rule 3 line 12"),
-    (HOLDS, ("0 held 5 via 0 1", "0 nohold"), NONE, "rule 3 line 7"),
+    (
+        TWO,
+        ("0 done 0 wrote 1", "0 done 0 bytes 61"),
+        NONE,
+        "rule 3 line 9",
+    ),
+    (
+        TWO,
+        ("0 done 0 wrote 1", "0 leased 1"),
+        NONE,
+        "rule 3 line 9",
+    ),
+    (
+        TWO,
+        ("0 done 2 size 0", "0 busy pp"),
+        NONE,
+        "rule 3 line 12",
+    ),
+    (
+        TWO,
+        ("0 done 2 size 0", "0 done 2 wrote 0"),
+        NONE,
+        "rule 3 line 12",
+    ),
+    (
+        HOLDS,
+        ("0 held 5 via 0 1", "0 nohold"),
+        NONE,
+        "rule 3 line 7",
+    ),
     (HOLDS, ("5 nohold", "5 busy pp"), NONE, "rule 3 line 12"),
     // Entries and done lines name each other.
-    (TWO, ("0 done 0", "0 done 1"), ("1 done 1", "1 done 0"), "rule 4 line 4"),
+    (
+        TWO,
+        ("0 done 0", "0 done 1"),
+        ("1 done 1", "1 done 0"),
+        "rule 4 line 4",
+    ),
     (TWO, ("0 done 2", "0 done 3"), NONE, "rule 4 line 6"),
     (TWO, ("entry 1 0 req\n", ""), NONE, "rule 4 line 11"),
-    (TWO, ("entry 1 0 req", "entry 1 1 req"), NONE, "rule 4 line 6"),
-    (BUSY, ("log place 0", "entry 0 2 via 0 1\nlog place 0"), NONE, "rule 4 line 4"),
+    (
+        TWO,
+        ("entry 1 0 req", "entry 1 1 req"),
+        NONE,
+        "rule 4 line 6",
+    ),
+    (
+        BUSY,
+        ("log place 0", "entry 0 2 via 0 1\nlog place 0"),
+        NONE,
+        "rule 4 line 4",
+    ),
     // A guest's places rise.
     (
         TWO,
-        ("entry 0 0 req 0\nentry 0 1 via 0 1", "entry 0 1 via 0 1\nentry 0 0 req 0"),
-        ("0 done 0 wrote 1\n1 done 1 bytes 61", "0 done 1 wrote 1\n1 done 0 bytes -"),
+        (
+            "entry 0 0 req 0\nentry 0 1 via 0 1",
+            "entry 0 1 via 0 1\nentry 0 0 req 0",
+        ),
+        (
+            "0 done 0 wrote 1\n1 done 1 bytes 61",
+            "0 done 1 wrote 1\n1 done 0 bytes -",
+        ),
         "rule 5 line 10",
     ),
     // Each answer is the plain file's.
@@ -103,13 +170,23 @@ pub const CASES: &[Case] = &[
     (TWO, ("req 0", "via 0 1"), NONE, "rule 7 line 4"),
     (TWO, ("via 0 1", "via 0 2"), NONE, "rule 7 line 5"),
     (TWO, ("via 0 1", "req"), NONE, "rule 7 line 5"),
-    (TWO, ("entry 1 0 req", "entry 1 0 req 0"), NONE, "rule 7 line 6"),
+    (
+        TWO,
+        ("entry 1 0 req", "entry 1 0 req 0"),
+        NONE,
+        "rule 7 line 6",
+    ),
     (RECLAIM, ("via 5 6", "via 0 6"), NONE, "rule 7 line 7"),
     (RECLAIM, ("via 5 6", "via 3 6"), NONE, "rule 7 line 7"),
     (SEAM, ("via 0 1 1 2", "via 1 2 0 1"), NONE, "rule 7 line 4"),
     (SEAM, ("via 0 1 1 2", "via 0 1"), NONE, "rule 7 line 4"),
     (SEAM, ("via 0 3", "via 0 2"), NONE, "rule 7 line 5"),
-    (NOTHING, ("end", "log place 0 in 0 r\nend"), NONE, "rule 9 line 4"),
+    (
+        NOTHING,
+        ("end", "log place 0 in 0 r\nend"),
+        NONE,
+        "rule 9 line 4",
+    ),
     // Each call that wasn't carried out was refused rightly.
     (BUSY, ("busy pp", "busy p"), NONE, "rule 8 line 9"),
     (HOLDS, ("held 5", "held 4"), NONE, "rule 8 line 7"),
@@ -120,13 +197,38 @@ pub const CASES: &[Case] = &[
     (HOLDS, ("in 0 w\n", "in 0 r\n"), NONE, "rule 7 line 4"),
     // Each log is sound.
     (TWO, ("in 0 r", "in 2 r"), NONE, "rule 9 line 7"),
-    (RECLAIM, ("log remove 0", "log remove 1"), NONE, "rule 9 line 11"),
-    (RECLAIM, ("guest 0", "log upgrade 0\nlog upgrade 0\nguest 0"), NONE, "rule 9 line 15"),
+    (
+        RECLAIM,
+        ("log remove 0", "log remove 1"),
+        NONE,
+        "rule 9 line 11",
+    ),
+    (
+        RECLAIM,
+        ("guest 0", "log upgrade 0\nlog upgrade 0\nguest 0"),
+        NONE,
+        "rule 9 line 15",
+    ),
     // The earlier of two broken rules is told, though a later line breaks it.
-    (TWO, ("bytes 61", "bytes 62"), ("entry 1 0 req", "entry 1 0 req 0"), "rule 6 line 10"),
-    (TWO, ("ranges 2", "ranges 3"), ("transcript 1", "transcript 2"), "transcript line 1"),
+    (
+        TWO,
+        ("bytes 61", "bytes 62"),
+        ("entry 1 0 req", "entry 1 0 req 0"),
+        "rule 6 line 10",
+    ),
+    (
+        TWO,
+        ("ranges 2", "ranges 3"),
+        ("transcript 1", "transcript 2"),
+        "transcript line 1",
+    ),
     // No transcripts.
-    (TWO, ("transcript 1", "transcript 2"), NONE, "transcript line 1"),
+    (
+        TWO,
+        ("transcript 1", "transcript 2"),
+        NONE,
+        "transcript line 1",
+    ),
     (TWO, ("end\n", "end"), NONE, "transcript line 13"),
     (TWO, ("end\n", ""), NONE, "transcript line 13"),
     (TWO, ("end\n", "end\n---\n"), NONE, "transcript line 14"),
@@ -134,7 +236,22 @@ pub const CASES: &[Case] = &[
     // No scripts, whatever follows.
     (("ranges 1\n", ""), NONE, NONE, "script line 1 limit"),
     (("", ""), NONE, NONE, "script line 1 order"),
-    (("ranges 2\nfile a 0\nguest\nread b 0 1\n", ""), NONE, NONE, "script line 4 file"),
-    (("ranges 0\nfile a 0\nguest\nhold a 0 r\n", ""), NONE, NONE, "script line 4 window"),
-    (("ranges 0\nfile a 0\nguest\nwrite a 0 6\n", ""), NONE, NONE, "script line 4 hex"),
+    (
+        ("ranges 2\nfile a 0\nguest\nread b 0 1\n", ""),
+        NONE,
+        NONE,
+        "script line 4 file",
+    ),
+    (
+        ("ranges 0\nfile a 0\nguest\nhold a 0 r\n", ""),
+        NONE,
+        NONE,
+        "script line 4 window",
+    ),
+    (
+        ("ranges 0\nfile a 0\nguest\nwrite a 0 6\n", ""),
+        NONE,
+        NONE,
+        "script line 4 hex",
+    ),
 ];

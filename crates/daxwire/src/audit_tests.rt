@@ -70,10 +70,7 @@ const PARTED: &[(&str, &str)] = &[
     ("ranges 1\n ---\n--- \n----\n", "no transcript"),
     ("ranges 0\n---", "transcript line 1"),
     ("---\ntranscript 1\n", "script line 1 order"),
-    (
-        "ranges 0\n---\ntranscript 1\nranges 0\nend\n",
-        "legal",
-    ),
+    ("ranges 0\n---\ntranscript 1\nranges 0\nend\n", "legal"),
     (
         "ranges 0\n---\n---\ntranscript 1\nranges 0\nend\n",
         "transcript line 1",

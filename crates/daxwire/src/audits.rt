@@ -93,7 +93,12 @@ fn judge(alloc: Global, script: &Script, text: &[u8], out: &mut Vec<u8>) -> Resu
 
 // Judges both texts, the script first.
 #[tactic(auto, unfolding(crate::specs::AuditText::script_due))]
-fn judge_texts(alloc: Global, script: &[u8], transcript: &[u8], out: &mut Vec<u8>) -> Result<Status, Memory>
+fn judge_texts(
+    alloc: Global,
+    script: &[u8],
+    transcript: &[u8],
+    out: &mut Vec<u8>,
+) -> Result<Status, Memory>
     requires { out.old.items ≡ [] }
     ensures text { OnOk result (out.new.items ≡ (script_due (script_of script.now) transcript.now).text) }
     ensures status { IfOk result (λ status. status ≡ (script_due (script_of script.now) transcript.now).status) }
@@ -121,7 +126,7 @@ pub struct Audit;
 
 impl Answer for Audit {
     ghost use Rattle.transcript_text.specs.TranscriptReading.{transcript_of};
-ghost use Rattle.daxwire.specs.AuditText.{texts_due};
+    ghost use Rattle.daxwire.specs.AuditText.{texts_due};
 
     ghost due = { texts_due };
 
