@@ -1,1 +1,6 @@
 pub mod DirectLaws
+pub mod Asked
+pub mod Entered
+pub mod OnFiles
+pub mod Sending
+pub mod Heard

@@ -3,5 +3,8 @@
 
 mod calls;
 mod direct;
+mod guest;
+mod requests;
 
 pub use calls::{Done, Refusal};
+pub use guest::Guest;
