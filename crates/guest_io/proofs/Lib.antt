@@ -4,3 +4,4 @@ pub mod Entered
 pub mod OnFiles
 pub mod Sending
 pub mod Heard
+pub mod Getting

@@ -2,6 +2,7 @@
 #![tactic(auto)]
 
 mod calls;
+mod chunks;
 mod direct;
 mod guest;
 mod requests;
