@@ -38,4 +38,3 @@ Gets-refused s t u file chunk mode (refusals.Errno n) k h none l (h', looks, rou
 Gets-refused s t u file chunk mode (refusals.BadReply b) k h none l (h', looks, rounds, caused) = (h' ∙ h, looks, Caused-keeps s t u (refusals.BadReply b) k caused)
 Gets-refused s t u file chunk mode refusals.WireFault k h none l (h', looks, rounds, caused) = (h' ∙ h, looks, Caused-keeps s t u refusals.WireFault k caused)
 Gets-refused s t u file chunk mode refusals.Memory k h none l (h', looks) = (h' ∙ h, looks, tt)
-

@@ -80,8 +80,8 @@ in-reply form bytes u v e =
     let coded : Result (ℕ × Reply) BadReply = if int_lt (pos 0) h.error || int_lt h.error (neg_ℤ (pos 4095)) then Err (bad_replies.ErrorCode h.error) else told in
     pick-result (nat_lt (length bytes) 16) (Err bad_replies.Short) (reply_after form h (length bytes) body) u v (λ d. absurd cc)
     (λ d. pick-result (not (h.len == length bytes)) (Err (bad_replies.Length h.len (length bytes))) coded u v (λ f. absurd cc)
-      (λ f. pick-result (int_lt (pos 0) h.error || int_lt h.error (neg_ℤ (pos 4095))) (Err (bad_replies.ErrorCode h.error)) told u v (λ k. absurd cc)
-        (λ k. in-with h.unique u (reply_body_of form h.error body) v (in-body form h.error body v) k) f) d) e
+    (λ f. pick-result (int_lt (pos 0) h.error || int_lt h.error (neg_ℤ (pos 4095))) (Err (bad_replies.ErrorCode h.error)) told u v (λ k. absurd cc)
+    (λ k. in-with h.unique u (reply_body_of form h.error body) v (in-body form h.error body v) k) f) d) e
 
 in-numbered : (unique : ℕ) (form : ReplyForm) (bytes : List ℕ) (r : Result (ℕ × Reply) BadReply) (v : List ℕ) → r ≡ reply_of form bytes → numbered unique r ≡ Some (replies.Bytes v) → Good v
 unfolding numbered

@@ -5,3 +5,4 @@ pub mod OnFiles
 pub mod Sending
 pub mod Heard
 pub mod Getting
+pub mod Accessing

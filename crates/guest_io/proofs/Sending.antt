@@ -218,9 +218,9 @@ undone-or-done s t call way m file op reply within free h l =
       | inl same ↦ inl (undone-unmarked s.files call way file t.files (subst (λ (b : BoardView). IsUndone v file b) (sym same) (undone-same v file)))
       | inr (inl seen) ↦ inl (undone-unmarked s.files call way file t.files (subst (λ (b : BoardView). IsUndone v file b) (sym seen.files) (undone-by s.wire.stays v file seen.more within seen.others)))
       | inr (inr carried) ↦
-        let c = carried.1 in
-        let k = enters-carried s t call way m file op reply carried.0 within free h c in
-        inr (record { place = k.place; answer = answer_in (reply (served_in s.wire.stays (world_at s.wire (boards v s.map)) file c.more)) }, k.directs)
+          let c = carried.1 in
+          let k = enters-carried s t call way m file op reply carried.0 within free h c in
+          inr (record { place = k.place; answer = answer_in (reply (served_in s.wire.stays (world_at s.wire (boards v s.map)) file c.more)) }, k.directs)
     ]
 
 pub Sends-refused : {S V : Type 0} (wire : S → WireView) (gives : S → Boards → Sent → Result (List ℕ) WireError → S → Boards → Type 0) (says : V → Reply → Type 0) (before : S) (old : Boards) (call : ℕ) (way : Way) (m : Message) (file : ℕ) (op : Op) (reply : World → Reply) (refusal : WireRefusal) (after : S) (new : Boards) (e : Refusal)
@@ -228,14 +228,14 @@ pub Sends-refused : {S V : Type 0} (wire : S → WireView) (gives : S → Boards
     → file < length old.files.files → old.files.hands.turn ≡ None → IsSoundBoard new.files file → ((wire before).honest ≡ true → IsOnFile (wire before).state m file op reply) → Sends (stand (wire before) old.files old.map) file call op way (Err e) (stand (wire after) new.files new.map)
 Sends-refused wire gives says before old call way m file op reply (wires.Errno number) after new e (bytes, came, is) of within free sound h =
     rw of (not-true (wire before).honest (λ honest.
-        let s = stand (wire before) old.files old.map in
-        let t = stand (wire after) new.files new.map in
-        let w = world_at (wire before) (boards (marked old.files call way) old.map) in
-        let x = world_at (wire after) new in
-        let k = h honest in
-        let c = carries (wire before) w m file op reply bytes x refl came.spelled k (came.honest honest) in
-        let heard_it = hears (wire before) w m file op reply bytes x refl came.spelled k c (small-before s t call way m file op reply bytes within sound c) in
-        is-some number (reply (served_in (wire before).stays w file c.more)) (k.success (served_in (wire before).stays w file c.more)) (same-reply (reply (served_in (wire before).stays w file c.more)) (replies.Error number) (heard m bytes) heard_it is)))
+    let s = stand (wire before) old.files old.map in
+    let t = stand (wire after) new.files new.map in
+    let w = world_at (wire before) (boards (marked old.files call way) old.map) in
+    let x = world_at (wire after) new in
+    let k = h honest in
+    let c = carries (wire before) w m file op reply bytes x refl came.spelled k (came.honest honest) in
+    let heard_it = hears (wire before) w m file op reply bytes x refl came.spelled k c (small-before s t call way m file op reply bytes within sound c) in
+    is-some number (reply (served_in (wire before).stays w file c.more)) (k.success (served_in (wire before).stays w file c.more)) (same-reply (reply (served_in (wire before).stays w file c.more)) (replies.Error number) (heard m bytes) heard_it is)))
 Sends-refused wire gives says before old call way m file op reply (wires.BadReply bad) after new e (not_honest, received) of within free sound h = rw of not_honest
 Sends-refused wire gives says before old call way m file op reply wires.WireFault after new e (not_honest, rose, came) of within free sound h = rw of (not_honest, rose)
 Sends-refused {V = V} wire gives says before old call way m file op reply wires.Memory after new e answer of within free sound h =

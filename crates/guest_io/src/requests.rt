@@ -116,18 +116,22 @@ where
         self.dax.files.sound(file);
         let before = self.dax.files.own_last(file);
         self.dax.files.mark(call, Way::Req);
-        let sent = self.dax.driver.getattr(
-            rt,
-            alloc,
-            at,
-            &mut self.dax.files,
-            &mut self.dax.ranges,
-        );
+        let sent = self
+            .dax
+            .driver
+            .getattr(rt, alloc, at, &mut self.dax.files, &mut self.dax.ranges);
         self.dax.files.sound(file);
         match sent {
             Ok(out) => {
                 let unique = self.dax.driver.unique;
-                enter_reply(alloc, &self.dax.files, file, before, unique, Reply::Attr(out))
+                enter_reply(
+                    alloc,
+                    &self.dax.files,
+                    file,
+                    before,
+                    unique,
+                    Reply::Attr(out),
+                )
             },
             Err(refusal) => Err(refusal_of(refusal)),
         }
