@@ -8,6 +8,8 @@ use Rattle.plain_file.specs.declared.operations.Way.{Way}
 use Rattle.plain_file.specs.declared.operations.Entry.{Entry}
 use Rattle.plain_file.specs.declared.operations.First.{First}
 use Rattle.plain_file.specs.declared.operations.Applied.{Applied}
+use Rattle.plain_file.specs.declared.refusals.BoardRefusal.{BoardRefusal}
+use Rattle.plain_file.specs.declared.refusals.BoardRefusal.TheVariants as refusals
 use Rattle.plain_file.specs.File.{answer}
 use Rattle.plain_file.specs.History.{bytes, size}
 use Rattle.plain_file.specs.Board.{FileView, FileHands, BoardView, file_at, with_file, with_own, entry_of, applied, marked, file_answer, bytes_now, size_of}
@@ -119,3 +121,9 @@ Directs-as v file call way op a w within free (more, mid, others, sound, (may, i
       Directs-unmarked v file call way op (record { place = a.place; answer = a.answer }) w (subst (λ (x : BoardView). Directs m file call way op (record { place = a.place; answer = a.answer }) x) (sym e) (directs m file more op a within free others is)),
       subst (λ (x : BoardView). KeepsFloor v file (record { place = a.place; answer = a.answer }) x) (sym e) (floor-after m file more op a within others sound is),
     )
+
+-- whatever is answered, a board stays a plain one or not
+pub plain-as : (v : BoardView) (file : ℕ) (op : Op) (result : Result Applied BoardRefusal) (w : BoardView) → AppliesAs v file op result w → w.plain ≡ v.plain
+plain-as v file op (Ok a) w (more, mid, others, sound, (may, is, d), last) = ap (λ (b : BoardView). b.plain) last ∙ ap (λ (b : BoardView). b.plain) d
+plain-as v file op (Err (refusals.Unbarred size)) w (more, mid, others, sound, (may, is, d), last) = ap (λ (b : BoardView). b.plain) last ∙ ap (λ (b : BoardView). b.plain) d
+plain-as v file op (Err refusals.Memory) w (more, mid, others, sound, d, last) = ap (λ (b : BoardView). b.plain) last ∙ ap (λ (b : BoardView). b.plain) d

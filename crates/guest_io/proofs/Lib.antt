@@ -6,3 +6,4 @@ pub mod Sending
 pub mod Heard
 pub mod Getting
 pub mod Accessing
+pub mod Homing

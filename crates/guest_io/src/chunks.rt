@@ -1,11 +1,13 @@
 ghost use Rattle.std.specs.Prelude.{◌≡◌, ◌<◌, ◌≤◌, None, Some, length, sum};
 ghost use Rattle.plain_file.specs.File.{max_file, reach};
 ghost use Rattle.plain_file.specs.declared.operations.Way.TheVariants as ways;
+ghost use Rattle.plain_file.specs.Sound.{IsSoundBoard};
 ghost use Rattle.page_map.specs.Board.{Hands, MapView};
 ghost use Rattle.range_tree.specs.Ranges.{range_count, pins_on, pinned_in, max_pins};
 ghost use Rattle.guest_dax.specs.Stands.{stand, Stands, Keeps};
 ghost use Rattle.guest_dax.specs.Looks.{NoLooks};
 ghost use Rattle.guest_io.specs.Calls.{AppliesDirect};
+ghost use Rattle.guest_io.specs.Requests.{IsHome};
 ghost use Rattle.guest_io.specs.Chunks.{Gets, GivesBack, Accesses};
 
 use crate::calls::Done;
@@ -72,6 +74,8 @@ where
         requires had { 0 < pins_on (R.map self.old.dax.ranges) pinned.range }
         requires pinned { (pinned_in (R.map self.old.dax.ranges) pinned.range).file ≡ file }
         ensures applied { AppliesDirect (F.board self.old.dax.files) file call (ways.Via pinned.through None) op result (F.board self.new.dax.files) }
+        ensures plain { (F.board self.new.dax.files).plain ≡ (F.board self.old.dax.files).plain }
+        ensures sound { IsSoundBoard (F.board self.new.dax.files) file }
         ensures back { GivesBack (R.map self.old.dax.ranges) pinned.range (R.map self.new.dax.ranges) }
         ensures driver { self.new.dax.driver ≡ self.old.dax.driver }
         ensures refs { self.new.dax.refs ≡ self.old.dax.refs }
@@ -94,7 +98,7 @@ where
         mode: Mode,
         op: Op,
     ) -> Result<Done, DaxRefusal>
-        requires stands { Stands (stand (W.wire self.old.dax.driver.wire) (F.board self.old.dax.files) (R.map self.old.dax.ranges)) self.old.dax.refs }
+        requires home { IsHome (stand (W.wire self.old.dax.driver.wire) (F.board self.old.dax.files) (R.map self.old.dax.ranges)) self.old.dax.refs }
         requires file { file < length self.old.dax.refs }
         requires chunk { chunk < 32 }
         requires ranges { 0 < range_count (R.map self.old.dax.ranges) }
@@ -103,6 +107,7 @@ where
         requires few { sum (R.map self.old.dax.ranges).hands.pins < max_pins }
         requires looks { NoLooks (R.map self.old.dax.ranges) }
         requires fits { reach op ≤ max_file }
+        ensures home { IsHome (stand (W.wire self.new.dax.driver.wire) (F.board self.new.dax.files) (R.map self.new.dax.ranges)) self.new.dax.refs }
         ensures accesses { Accesses (stand (W.wire self.old.dax.driver.wire) (F.board self.old.dax.files) (R.map self.old.dax.ranges)) file call op chunk mode result (stand (W.wire self.new.dax.driver.wire) (F.board self.new.dax.files) (R.map self.new.dax.ranges)) }
         ensures refs { self.new.dax.refs ≡ self.old.dax.refs }
     {

@@ -1,6 +1,7 @@
 ghost use Rattle.std.specs.Prelude.{◌≡◌, ◌<◌, ◌≤◌, None, length};
 ghost use Rattle.plain_file.specs.File.{max_file, reach};
 ghost use Rattle.plain_file.specs.Board.{BoardView};
+ghost use Rattle.plain_file.specs.Sound.{IsSoundBoard};
 ghost use Rattle.guest_io.specs.Calls.{AppliesDirect};
 
 use crate::calls::Done;
@@ -21,10 +22,14 @@ pub(crate) fn apply_direct<T: Wait, F: FileTurns>(
     requires file { file < length (F.board files.old).files }
     requires free { (F.board files.old).hands.turn ≡ None }
     requires fits { reach op ≤ max_file }
-    ensures { AppliesDirect (F.board files.old) file call way op result (F.board files.new) }
+    ensures applies { AppliesDirect (F.board files.old) file call way op result (F.board files.new) }
+    ensures plain { (F.board files.new).plain ≡ (F.board files.old).plain }
+    ensures sound { IsSoundBoard (F.board files.new) file }
 {
     files.mark(call, way);
-    match apply_as(rt, alloc, files, file, op) {
+    let applied = apply_as(rt, alloc, files, file, op);
+    files.sound(file);
+    match applied {
         Ok(applied) => Ok(Done {
             place: applied.place,
             answer: applied.answer,
