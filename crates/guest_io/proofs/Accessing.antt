@@ -1,26 +1,22 @@
 -- One direct access: a pin, the operation, and the pin given back.
-use Rattle.std.proofs.Common.{◌≡◌, ◌≢◌, ◌∙◌, ap, sym, refl, subst, ℕ, zero, suc, ◌+◌, ◌-◌, ◌<◌, ◌≤◌, true, List, [], ◌∷◌, length, get_or, slice_set, replicate, Option, None, Some, Result, Ok, Err, arith}
-use Rattle.std.proofs.lemmas.Grind.{common_steps}
+use Rattle.std.proofs.Common.{◌≡◌, ◌∙◌, ap, sym, refl, subst, ℕ, zero, suc, ◌+◌, ◌-◌, List, [], ◌∷◌, length, get_or, slice_set, replicate, Option, None, Ok, Err, arith}
 use Rattle.plain_file.specs.declared.operations.Op.{Op}
 use Rattle.plain_file.specs.declared.operations.Way.TheVariants as ways
-use Rattle.plain_file.specs.declared.operations.Through.{Through}
 use Rattle.plain_file.specs.declared.refusals.Memory.{Memory}
-use Rattle.plain_file.specs.Board.{FileHands, BoardView, FileView, file_at}
+use Rattle.plain_file.specs.Board.{BoardView, file_at}
 use Rattle.page_map.specs.declared.pages.Mode.{Mode}
 use Rattle.page_map.specs.declared.ranges.LogEntry.{LogEntry}
-use Rattle.page_map.specs.Board.{MapView, Hands, Noted, log_at}
-use Rattle.page_map.specs.declared.ranges.Target.{Target}
-use Rattle.range_tree.specs.Ranges.{range_count, pins_on, with_pins, unpinned, targeted}
+use Rattle.page_map.specs.Board.{MapView, Hands}
+use Rattle.range_tree.specs.Ranges.{range_count, pins_on, with_pins}
 use Rattle.guest_dax.specs.Stands.{Stand, Keeps}
 use Rattle.guest_dax.specs.Pinning.{with_one}
 use Rattle.guest_dax.specs.Looks.{NoLooks}
-use Rattle.guest_dax.specs.Reclaims.{Caused}
 use Rattle.guest_dax.specs.declared.pins.Pinned.{Pinned}
 use Rattle.guest_dax.specs.declared.refusals.DaxRefusal.{DaxRefusal}
 use Rattle.guest_dax.specs.declared.refusals.DaxRefusal.TheVariants as refusals
 use Rattle.guest_io.specs.declared.calls.Done.{Done}
 use Rattle.guest_io.specs.Calls.{IsThrough, AppliesDirect, Directs, KeepsFloor}
-use Rattle.guest_io.specs.Chunks.{Gets, GivesBack, NothingHad, Accesses}
+use Rattle.guest_io.specs.Chunks.{Gets, GivesBack, Accesses}
 
 back : (xs : List ℕ) (i : ℕ) → slice_set (slice_set xs i (get_or xs i 0 + 1)) i (get_or (slice_set xs i (get_or xs i 0 + 1)) i 0 - 1) ≡ xs
 back [] i = refl

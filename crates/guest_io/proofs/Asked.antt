@@ -1,6 +1,6 @@
 -- A request about a file over an honest wire: the operation is applied to the file, and the reply is brought back.
-use Rattle.std.proofs.Common.{◌≡◌, ◌∙◌, ap, sym, refl, subst, arith, ℕ, ◌+◌, ◌-◌, ◌<◌, ◌≤◌, ◌^◌, ◌==◌, Bool, true, false, true≢false, List, [], ◌∷◌, ◌++◌, length, Option, Some, None, Result, Ok, Err, inl, inr}
-use Rattle.std.specs.Prelude.{◌⊎◌, ◌≢◌, ◌||◌, IsSome, ℤ, if◌then◌else◌}
+use Rattle.std.proofs.Common.{◌≡◌, ◌∙◌, ap, sym, refl, subst, arith, ℕ, ◌+◌, ◌-◌, ◌<◌, ◌≤◌, ◌^◌, Bool, true, false, List, length, Option, Some, None, Ok}
+use Rattle.std.specs.Prelude.{◌||◌, IsSome, if◌then◌else◌}
 use Rattle.std.proofs.lemmas.Bool.{eq-eqb, le-ltb}
 use Rattle.fuse_wire.specs.Layout.{FitsParts}
 use Rattle.fuse_wire.specs.Records.{in_header}
@@ -15,14 +15,12 @@ use Rattle.fuse_codec.specs.Grammar.{kind_of, clean_message, header_of, Spells}
 use Rattle.fuse_codec.specs.Opcodes.{reply_form}
 use Rattle.fuse_codec.specs.ReplyReading.{reply_of}
 use Rattle.fuse_codec.specs.Replies.{form_of, reply_parts, is_reply, clean_reply, HasForm}
-use Rattle.fuse_codec.specs.Reading.{message_of}
 use Rattle.fuse_codec.specs.declared.messages.Message.{Message}
 use Rattle.fuse_codec.specs.declared.replies.Reply.{Reply}
-use Rattle.fuse_codec.specs.declared.replies.Reply.TheVariants as replies
 use Rattle.fuse_codec.proofs.RequestLaws.{message_again}
 use Rattle.fuse_device.specs.State.{State, World}
 use Rattle.fuse_device.specs.Checks.{Outcome, is_known}
-use Rattle.fuse_device.specs.DataSteps.{is_data, is_on_file, data_step, file_in, named_file}
+use Rattle.fuse_device.specs.DataSteps.{is_data, is_on_file, file_in, named_file}
 use Rattle.fuse_device.specs.OpenFiles.{Succeeds}
 use Rattle.fuse_device.specs.Requests.{answered, is_init, is_forget}
 use Rattle.fuse_device.specs.Steps.{Step, wanted_room, reply_to, replied, device_step}
@@ -30,13 +28,9 @@ use Rattle.fuse_device.proofs.Answering.{device_step_fits, data_step_fits}
 use Rattle.fuse_device.proofs.DataLaws.{data_step-device_step, file_named}
 use Rattle.fuse_device.proofs.OpenHandles.{device_step-answered}
 use Rattle.fuse_device.proofs.Receiving.{clean_reply_again}
-use Rattle.guest_wire.specs.Wires.{WireView, Boards, Sent, world_at, turn_for, with_turn, without_turn, step_of, IsCarried, IsSeen, Honest}
+use Rattle.guest_wire.specs.Wires.{WireView, Sent, turn_for, with_turn, without_turn, step_of, IsCarried, IsSeen}
 use Rattle.guest_wire.specs.Requests.{sent}
-use Rattle.guest_wire.specs.Answers.{Answers, heard, heard_as, numbered}
-use Rattle.guest_wire.specs.declared.wires.WireError.{WireError}
-use Rattle.guest_wire.specs.declared.wires.WireError.TheVariants as errors
-use Rattle.guest_wire.specs.declared.wires.WireRefusal.{WireRefusal}
-use Rattle.guest_wire.specs.declared.wires.WireRefusal.TheVariants as refusals
+use Rattle.guest_wire.specs.Answers.{heard, heard_as, numbered}
 use Rattle.guest_io.specs.Requests.{answer_in}
 
 -- ---- the boards while the request is served, and afterwards

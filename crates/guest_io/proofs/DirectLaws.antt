@@ -1,6 +1,6 @@
 -- One operation under a file's turn.
-use Rattle.std.proofs.Common.{◌≡◌, ◌≢◌, ◌∙◌, ap, sym, refl, subst, ℕ, ◌+◌, ◌<◌, ◌≤◌, Bool, true, false, List, [], ◌∷◌, ◌++◌, length, take, Option, None, Some, Result, Ok, Err, inl, inr, arith}
-use Rattle.std.specs.Prelude.{IfSome, All}
+use Rattle.std.proofs.Common.{◌≡◌, ◌∙◌, ap, sym, refl, subst, ℕ, ◌<◌, ◌≤◌, Bool, true, false, List, [], ◌∷◌, ◌++◌, length, take, Option, None, Result, Ok, Err, arith}
+use Rattle.std.specs.Prelude.{IfSome}
 use Rattle.std.proofs.lemmas.Grind.{common_steps}
 use Rattle.std.proofs.lemmas.List.{append-nil}
 use Rattle.plain_file.specs.declared.operations.Op.{Op}
@@ -10,7 +10,6 @@ use Rattle.plain_file.specs.declared.operations.First.{First}
 use Rattle.plain_file.specs.declared.operations.Applied.{Applied}
 use Rattle.plain_file.specs.declared.refusals.BoardRefusal.{BoardRefusal}
 use Rattle.plain_file.specs.declared.refusals.BoardRefusal.TheVariants as refusals
-use Rattle.plain_file.specs.File.{answer}
 use Rattle.plain_file.specs.History.{bytes, size}
 use Rattle.plain_file.specs.Board.{FileView, FileHands, BoardView, file_at, with_file, with_own, entry_of, applied, marked, file_answer, bytes_now, size_of}
 use Rattle.plain_file.specs.Turns.{AppliesAs, AreOthers, entered, seen_file, left}

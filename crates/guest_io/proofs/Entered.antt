@@ -1,5 +1,5 @@
 -- What a request about a file leaves of the board of files, as one entry of its history.
-use Rattle.std.proofs.Common.{◌≡◌, ◌∙◌, ap, sym, refl, subst, arith, ℕ, zero, suc, ◌+◌, ◌-◌, ◌<◌, ◌≤◌, Bool, true, false, List, [], ◌∷◌, ◌++◌, length, get_or, Option, Some, None}
+use Rattle.std.proofs.Common.{◌≡◌, ◌∙◌, ap, sym, refl, subst, arith, ℕ, zero, suc, ◌-◌, ◌<◌, Bool, true, false, List, [], ◌∷◌, ◌++◌, length, get_or, Some, None}
 use Rattle.std.specs.Prelude.{slice_get, All, ◌≢◌}
 use Rattle.std.proofs.lemmas.Grind.{common_steps}
 use Rattle.std.proofs.lemmas.List.{append-nil}
@@ -12,13 +12,12 @@ use Rattle.plain_file.specs.declared.operations.Applied.{Applied}
 use Rattle.plain_file.specs.declared.operations.Entry.{Entry}
 use Rattle.plain_file.specs.File.{after}
 use Rattle.plain_file.specs.History.{bytes}
-use Rattle.plain_file.specs.Board.{FileView, FileHands, BoardView, IsReady, file_at, with_file, with_own, entry_of, applied, marked, file_answer, bytes_now, size_of, last_of}
+use Rattle.plain_file.specs.Board.{FileView, BoardView, IsReady, file_at, with_own, entry_of, applied, marked, file_answer, bytes_now, size_of, last_of}
 use Rattle.plain_file.specs.Turns.{AreOthers, entered, seen_file, left}
 use Rattle.plain_file.specs.Sound.{IsPlaceOf}
 use Rattle.plain_file.proofs.Grows.{bytes-grown}
 use Rattle.plain_file.proofs.OneFile.{file_at-with_file, file_at-with_other}
-use Rattle.guest_io.specs.declared.calls.Done.{Done}
-use Rattle.guest_io.specs.Calls.{IsDone, Directs, OthersStay}
+use Rattle.guest_io.specs.Calls.{IsDone, Directs}
 use Rattle.guest_io.specs.Requests.{IsUndone}
 use Rattle.guest_io.proofs.Asked.{mid, back}
 use Rattle.guest_io.proofs.DirectLaws.{directs, file-after, long-set}

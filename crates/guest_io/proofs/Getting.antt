@@ -1,15 +1,13 @@
 -- A chunk that is got for a call.
-use Rattle.std.proofs.Common.{◌≡◌, ◌≢◌, ◌∙◌, ap, sym, refl, subst, ℕ, ◌+◌, ◌<◌, ◌≤◌, Bool, true, false, List, [], ◌∷◌, ◌++◌, zero, suc, length, take, drop, get_or, Option, None, Some, Result, Ok, Err, arith}
-use Rattle.std.specs.Prelude.{slice_get, nat_lt, nat_le, ◌&&◌}
+use Rattle.std.proofs.Common.{◌≡◌, ◌∙◌, ap, sym, refl, subst, ℕ, ◌+◌, ◌<◌, ◌≤◌, List, ◌++◌, length, take, get_or, None, Err, arith}
 use Rattle.std.proofs.lemmas.Grind.{common_steps}
 use Rattle.page_map.specs.declared.pages.Mode.{Mode}
 use Rattle.page_map.specs.declared.ranges.LogEntry.{LogEntry}
 use Rattle.page_map.specs.Logs.{placed_at}
-use Rattle.page_map.specs.Board.{MapView, Hands, log_at}
+use Rattle.page_map.specs.Board.{Hands, log_at}
 use Rattle.guest_wire.specs.Keeps.{Begins}
 use Rattle.guest_dax.specs.Stands.{Stand, Keeps}
 use Rattle.guest_dax.specs.Reclaims.{Acquires}
-use Rattle.guest_dax.specs.Looks.{AllBlocked}
 use Rattle.guest_dax.specs.declared.refusals.DaxRefusal.{DaxRefusal}
 use Rattle.guest_dax.specs.declared.refusals.DaxRefusal.TheVariants as refusals
 use Rattle.guest_dax.proofs.Searching.{IsBlocked-same}

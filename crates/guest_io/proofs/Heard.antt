@@ -1,5 +1,5 @@
 -- Bytes that are heard as the reply to a request are no more than a transfer.
-use Rattle.std.proofs.Common.{◌≡◌, ◌∙◌, ap, sym, refl, subst, arith, ℕ, Bool, true, false, nat_le, List, [], ◌∷◌, length, Option, Some, None, Result, Ok, Err}
+use Rattle.std.proofs.Common.{◌≡◌, ◌∙◌, ap, sym, refl, ℕ, Bool, true, false, nat_le, List, length, Option, Some, None, Result, Ok, Err}
 use Rattle.std.specs.Prelude.{ℤ, pos, neg_ℤ, int_lt, ◌==◌, ◌||◌, not, nat_lt, take, drop, option_map, if◌then◌else◌}
 use Rattle.plain_file.specs.Limits.{max_transfer}
 use Rattle.fuse_wire.specs.Records.{out_header_at, write_out_of}
@@ -7,13 +7,11 @@ use Rattle.fuse_wire.specs.Attributes.{entry_out_at, entry_out_of, attr_out_of}
 use Rattle.fuse_wire.specs.Opens.{open_out_of}
 use Rattle.fuse_wire.specs.Inits.{init_out_of}
 use Rattle.fuse_wire.specs.declared.records.OutHeader.{OutHeader}
-use Rattle.fuse_wire.specs.declared.opens.OpenOut.{OpenOut}
 use Rattle.fuse_codec.specs.Replies.{is_reply}
 use Rattle.fuse_codec.specs.ReplyReading.{reply_of, reply_after, reply_with, reply_body_of, success_of, created_of}
 use Rattle.fuse_codec.specs.declared.errors.BadReply.{BadReply}
 use Rattle.fuse_codec.specs.declared.errors.BadReply.TheVariants as bad_replies
 use Rattle.fuse_codec.specs.declared.messages.Message.{Message}
-use Rattle.fuse_codec.specs.declared.opcodes.Opcode.{Opcode}
 use Rattle.fuse_codec.specs.declared.opcodes.ReplyForm.{ReplyForm}
 use Rattle.fuse_codec.specs.declared.opcodes.ReplyForm.TheVariants as forms
 use Rattle.fuse_codec.specs.declared.replies.Reply.{Reply}

@@ -1,16 +1,16 @@
 -- What a guest rests on holds after what it does to its chunks.
-use Rattle.std.proofs.Common.{◌≡◌, ◌≢◌, ◌∙◌, ap, sym, refl, subst, arith, ℕ, ◌+◌, ◌<◌, ◌≤◌, true, false, List, length, Option, None, Some, Result, Ok, Err}
+use Rattle.std.proofs.Common.{◌≡◌, ◌∙◌, ap, sym, subst, ℕ, true, List, length, Result, Ok, Err}
 use mathlib.Core.Logic.{dite}
 use native.Mathlib.Decide.{ℕ_discrete}
 use Rattle.plain_file.specs.declared.operations.Op.{Op}
 use Rattle.plain_file.specs.declared.operations.Way.{Way}
 use Rattle.plain_file.specs.declared.refusals.Memory.{Memory}
-use Rattle.plain_file.specs.Board.{FileView, FileHands, BoardView, IsReady, file_at}
+use Rattle.plain_file.specs.Board.{FileView, FileHands, BoardView, IsReady}
 use Rattle.plain_file.specs.Sound.{IsSoundBoard}
 use Rattle.page_map.specs.Board.{MapView}
 use Rattle.guest_wire.specs.Wires.{WireView}
 use Rattle.guest_wire.specs.declared.driver.FileRef.{FileRef}
-use Rattle.guest_dax.specs.Stands.{Stand, stand, Stands, IsServing, Keeps}
+use Rattle.guest_dax.specs.Stands.{Stand, stand, Keeps}
 use Rattle.guest_dax.proofs.Walking.{Stands-keeps}
 use Rattle.guest_io.specs.declared.calls.Done.{Done}
 use Rattle.guest_io.specs.Calls.{AppliesDirect, OthersStay}

@@ -1,7 +1,6 @@
 -- The requests about a file's bytes and its size.
-use Rattle.std.proofs.Common.{◌≡◌, ◌∙◌, ap, sym, refl, subst, arith, ℕ, ◌+◌, ◌-◌, ◌<◌, ◌≤◌, ◌^◌, Bool, true, false, List, length, length-take, take, drop, Some, Ok, is_some, if◌then◌else◌}
+use Rattle.std.proofs.Common.{◌≡◌, ◌∙◌, ap, sym, refl, subst, arith, ℕ, ◌+◌, ◌-◌, ◌<◌, ◌≤◌, ◌^◌, Bool, true, false, List, length, length-take, take, drop, Ok, is_some, if◌then◌else◌}
 use Rattle.std.proofs.lemmas.Bool.{le-leb}
-use Rattle.std.proofs.lemmas.Grind.{common_steps}
 use Rattle.plain_file.specs.declared.operations.Op.TheVariants as ops
 use Rattle.plain_file.specs.File.{max_file, answer}
 use Rattle.plain_file.specs.Limits.{max_transfer}
@@ -12,12 +11,11 @@ use Rattle.fuse_wire.specs.Records.{write_out}
 use Rattle.fuse_codec.specs.Grammar.{kind_of}
 use Rattle.fuse_codec.specs.Opcodes.{reply_form}
 use Rattle.fuse_codec.specs.Replies.{form_of, reply_parts, is_reply}
-use Rattle.fuse_codec.specs.declared.messages.Request.TheVariants as asks
 use Rattle.fuse_codec.specs.declared.replies.Reply.{Reply}
 use Rattle.fuse_codec.specs.declared.replies.Reply.TheVariants as replies
 use Rattle.fuse_device.specs.State.{State, World, made_at}
 use Rattle.fuse_device.specs.DataSteps.{is_data, is_on_file}
-use Rattle.fuse_device.specs.Requests.{answered, getattr, size_in, is_forget, is_init}
+use Rattle.fuse_device.specs.Requests.{answered, getattr, size_in, is_forget}
 use Rattle.fuse_device.specs.Entries.{file_attr, attr_out_of}
 use Rattle.fuse_device.specs.OpenFiles.{HasOpenFile, Succeeds}
 use Rattle.fuse_device.proofs.Allowed.{may_apply_size}

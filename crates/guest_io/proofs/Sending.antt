@@ -1,6 +1,6 @@
 -- What comes of one request about a file, over any wire.
-use Rattle.std.proofs.Common.{◌≡◌, ◌∙◌, ap, sym, refl, subst, arith, ℕ, ◌+◌, ◌<◌, ◌≤◌, Bool, true, false, true≢false, List, [], ◌∷◌, ◌++◌, length, Option, Some, None, Result, Ok, Err, inl, inr}
-use Rattle.std.specs.Prelude.{◌⊎◌, ◌≢◌, IsSome, ℤ, All}
+use Rattle.std.proofs.Common.{◌≡◌, ◌∙◌, ap, sym, refl, subst, arith, ℕ, ◌+◌, ◌<◌, ◌≤◌, Bool, true, false, true≢false, List, length, Option, Some, None, Result, Ok, Err, inl, inr}
+use Rattle.std.specs.Prelude.{◌⊎◌, IsSome, ℤ}
 use Rattle.std.proofs.lemmas.Grind.{common_steps}
 use Rattle.plain_file.specs.declared.operations.Op.{Op}
 use Rattle.plain_file.specs.declared.operations.Op.TheVariants as ops
@@ -9,10 +9,9 @@ use Rattle.plain_file.specs.declared.operations.Answer.{Answer}
 use Rattle.plain_file.specs.declared.operations.Applied.{Applied}
 use Rattle.plain_file.specs.declared.operations.Entry.{Entry}
 use Rattle.plain_file.specs.File.{max_file}
-use Rattle.plain_file.specs.Board.{FileView, FileHands, BoardView, IsReady, file_at, size_of, applied, marked, file_answer, last_of}
-use Rattle.plain_file.specs.Turns.{AreOthers}
+use Rattle.plain_file.specs.Board.{FileHands, BoardView, IsReady, file_at, size_of, applied, marked, file_answer, last_of}
 use Rattle.plain_file.specs.Sound.{IsSoundBoard}
-use Rattle.page_map.specs.Board.{MapView, Hands, RangesView}
+use Rattle.page_map.specs.Board.{RangesView}
 use Rattle.fuse_codec.specs.Replies.{form_of}
 use Rattle.fuse_codec.specs.declared.messages.Message.{Message}
 use Rattle.fuse_codec.specs.declared.messages.Request.{Request}
@@ -23,11 +22,10 @@ use Rattle.fuse_device.specs.OpenFiles.{HasOpenFile}
 use Rattle.fuse_device.specs.Promises.{Needs}
 use Rattle.guest_wire.specs.Wires.{WireView, Boards, Sent, KeepsWire, boards, world_at}
 use Rattle.guest_wire.specs.Keeps.{KeepsBoards, KeepsFiles}
-use Rattle.guest_wire.specs.Requests.{CanAsk, sent}
+use Rattle.guest_wire.specs.Requests.{CanAsk}
 use Rattle.guest_wire.specs.Answers.{Answers, heard}
 use Rattle.guest_wire.specs.declared.driver.FileRef.{FileRef}
 use Rattle.guest_wire.specs.declared.wires.WireError.{WireError}
-use Rattle.guest_wire.specs.declared.wires.WireError.TheVariants as errors
 use Rattle.guest_wire.specs.declared.wires.WireRefusal.{WireRefusal}
 use Rattle.guest_wire.specs.declared.wires.WireRefusal.TheVariants as wires
 use Rattle.guest_dax.specs.Stands.{Stand, stand, Stands, IsServing, ref_at}

@@ -1,16 +1,16 @@
 -- What a request about a file is answered, and what it leaves.
-use Rattle.std.specs.Prelude.{◌≡◌, ◌≢◌, ℕ, true, false, List, [], ◌∷◌, ◌++◌, length, Option, Some, Result, Ok, Err, ◌⊎◌, All, IfSome}
+use Rattle.std.specs.Prelude.{◌≡◌, ◌≢◌, ℕ, true, false, List, ◌++◌, Option, Some, Result, Ok, Err, ◌⊎◌, All}
 use Rattle.plain_file.specs.Counts.{Rose}
 use Rattle.plain_file.specs.declared.operations.Answer.{Answer}
 use Rattle.plain_file.specs.declared.operations.Answer.TheVariants as answers
 use Rattle.plain_file.specs.declared.operations.Entry.{Entry}
 use Rattle.plain_file.specs.declared.operations.Op.{Op}
 use Rattle.plain_file.specs.declared.operations.Way.{Way}
-use Rattle.plain_file.specs.Board.{FileView, BoardView, file_at, marked, last_of}
-use Rattle.fuse_codec.specs.Replies.{is_reply, clean_reply}
+use Rattle.plain_file.specs.Board.{BoardView, file_at, marked, last_of}
+use Rattle.fuse_codec.specs.Replies.{clean_reply}
 use Rattle.fuse_codec.specs.declared.replies.Reply.{Reply}
 use Rattle.fuse_codec.specs.declared.replies.Reply.TheVariants as replies
-use Rattle.guest_wire.specs.Wires.{WireView, KeepsWire}
+use Rattle.guest_wire.specs.Wires.{KeepsWire}
 use Rattle.guest_wire.specs.Keeps.{KeepsFiles, KeepsPages}
 use Rattle.guest_wire.specs.declared.driver.FileRef.{FileRef}
 use Rattle.guest_wire.specs.declared.wires.WireRefusal.{WireRefusal}

@@ -1,5 +1,5 @@
-use Rattle.std.proofs.Common.{◌≡◌, ◌∙◌, ap, sym, None}
-use Rattle.guest_dax.specs.Stands.{stand, Stand}
+use Rattle.std.proofs.Common.{◌∙◌, None}
+use Rattle.guest_dax.specs.Stands.{stand}
 use Rattle.plain_file.specs.declared.operations.Way.TheVariants as ways
 use Rattle.guest_io.proofs.Homing.{IsHome-direct, IsHome-keeps}
 use Rattle.guest_io.proofs.Accessing.{Accesses-ok, Accesses-memory}

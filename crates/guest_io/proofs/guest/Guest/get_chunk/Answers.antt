@@ -1,6 +1,5 @@
-use Rattle.std.proofs.Common.{◌≡◌, ◌∙◌, ap, sym, refl, None, Some, Ok}
-use Rattle.guest_dax.specs.Stands.{stand, Stand, Keeps}
-use Rattle.guest_dax.proofs.Walking.{Keeps-both, Stands-keeps}
+use Rattle.guest_dax.specs.Stands.{stand}
+use Rattle.guest_dax.proofs.Walking.{Keeps-both}
 use Rattle.guest_io.proofs.Getting.{Gets-refused}
 use Rattle.guest_io.proofs.guest.Guest.get_chunk.Goals as goal
 

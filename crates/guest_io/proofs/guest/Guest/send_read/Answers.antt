@@ -1,6 +1,4 @@
-use Rattle.std.proofs.Common.{◌≡◌, ap, sym, refl, arith, ℕ, length, Result, Ok, Err}
-use Rattle.fuse_codec.specs.Replies.{is_reply}
-use Rattle.fuse_codec.specs.declared.replies.Reply.{Reply}
+use Rattle.std.proofs.Common.{◌≡◌, arith, Ok, Err}
 use Rattle.fuse_codec.specs.declared.replies.Reply.TheVariants as replies
 use Rattle.plain_file.specs.declared.operations.Op.TheVariants as ops
 use Rattle.plain_file.specs.declared.operations.Way.TheVariants as ways
@@ -10,7 +8,7 @@ use Rattle.guest_wire.specs.Requests.{message, next_number, read_request}
 use Rattle.guest_dax.specs.Stands.{stand}
 use Rattle.guest_io.proofs.Heard.{good-heard}
 use Rattle.guest_io.proofs.OnFiles.{read-on, read_reply, handle-of}
-use Rattle.guest_io.proofs.Sending.{Asks, asks-rest, asks-home, asks-answered, asks-refused, CanAsk-marked}
+use Rattle.guest_io.proofs.Sending.{Asks, asks-home, asks-answered, asks-refused, CanAsk-marked}
 use Rattle.guest_io.proofs.guest.Guest.send_read.Goals as goal
 
 pub read-sent-requires-clause-boards : goal.read-sent-requires-clause-boards

@@ -1,16 +1,14 @@
-use Rattle.std.proofs.Common.{◌≡◌, ap, sym, refl, arith, ℕ, length, Result, Ok, Err}
+use Rattle.std.proofs.Common.{refl, arith, Ok, Err}
 use Rattle.fuse_codec.specs.Replies.{is_reply}
-use Rattle.fuse_codec.specs.declared.replies.Reply.{Reply}
 use Rattle.fuse_codec.specs.declared.replies.Reply.TheVariants as replies
 use Rattle.plain_file.specs.declared.operations.Op.TheVariants as ops
-use Rattle.plain_file.specs.declared.operations.Way.TheVariants as ways
 use Rattle.fuse_device.specs.Promises.{Needs}
 use Rattle.guest_wire.specs.Wires.{boards}
 use Rattle.guest_wire.specs.Requests.{message, next_number, write_request}
 use Rattle.guest_wire.specs.Answers.{SaysWrote}
 use Rattle.guest_dax.specs.Stands.{stand}
 use Rattle.guest_io.proofs.OnFiles.{write-on, write_reply, handle-of}
-use Rattle.guest_io.proofs.Sending.{Asks, asks-rest, asks-home, asks-answered, asks-refused, CanAsk-marked}
+use Rattle.guest_io.proofs.Sending.{Asks, asks-home, asks-answered, asks-refused, CanAsk-marked}
 use Rattle.guest_io.proofs.guest.Guest.send_write.Goals as goal
 
 pub write-sent-requires-clause-boards : goal.write-sent-requires-clause-boards

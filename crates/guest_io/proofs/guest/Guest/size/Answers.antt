@@ -1,6 +1,5 @@
-use Rattle.std.proofs.Common.{◌≡◌, ap, sym, refl, arith, ℕ, length, Result, Ok, Err}
+use Rattle.std.proofs.Common.{◌≡◌, refl, arith, Ok, Err}
 use Rattle.fuse_codec.specs.Replies.{is_reply}
-use Rattle.fuse_codec.specs.declared.replies.Reply.{Reply}
 use Rattle.fuse_codec.specs.declared.replies.Reply.TheVariants as replies
 use Rattle.plain_file.specs.declared.operations.Op.TheVariants as ops
 use Rattle.plain_file.specs.declared.operations.Way.TheVariants as ways
@@ -9,7 +8,7 @@ use Rattle.guest_wire.specs.Wires.{boards}
 use Rattle.guest_wire.specs.Requests.{message, next_number, getattr_request}
 use Rattle.guest_dax.specs.Stands.{stand}
 use Rattle.guest_io.proofs.OnFiles.{size-on, size_reply, handle-of}
-use Rattle.guest_io.proofs.Sending.{Asks, asks-rest, asks-home, asks-answered, asks-refused, CanAsk-marked}
+use Rattle.guest_io.proofs.Sending.{Asks, asks-home, asks-answered, asks-refused, CanAsk-marked}
 use Rattle.guest_io.proofs.guest.Guest.size.Goals as goal
 
 pub getattr-sent-requires : goal.getattr-sent-requires
