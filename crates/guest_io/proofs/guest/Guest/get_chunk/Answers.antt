@@ -1,0 +1,18 @@
+use Rattle.guest_dax.specs.Stands.{stand}
+use Rattle.guest_dax.proofs.Walking.{Keeps-both}
+use Rattle.guest_io.proofs.Getting.{Gets-refused}
+use Rattle.guest_io.proofs.guest.Guest.get_chunk.Goals as goal
+
+pub returns-in-Ok-clause-keeps : goal.returns-in-Ok-clause-keeps
+returns-in-Ok-clause-keeps g c = Keeps-both _ _ _ c.pin_chunk.ensures.keeps (Keeps-both _ _ _ c.acquire.ensures.keeps c.place.ensures.keeps)
+
+pub returns-in-Err-acquire-clause-keeps : goal.returns-in-Err-acquire-clause-keeps
+returns-in-Err-acquire-clause-keeps g c = Keeps-both _ _ _ c.pin_chunk.ensures.keeps c.acquire.ensures.keeps
+
+pub returns-in-Err-acquire-clause-gets : goal.returns-in-Err-acquire-clause-gets
+returns-in-Err-acquire-clause-gets g c =
+    let s = stand (g.W.Wire.wire c.args.self.now.dax.driver.wire) (g.F.FileBoard.board c.args.self.now.dax.files) (g.R.MapBoard.map c.args.self.now.dax.ranges) in
+    let t = stand (g.W.Wire.wire c.pin_chunk.new.self.driver.wire) (g.F.FileBoard.board c.pin_chunk.new.self.files) (g.R.MapBoard.map c.pin_chunk.new.self.ranges) in
+    let u = stand (g.W.Wire.wire c.acquire.new.self.driver.wire) (g.F.FileBoard.board c.acquire.new.self.files) (g.R.MapBoard.map c.acquire.new.self.ranges) in
+    let (h, none) = rw c.in-Ok-None.field-0-is at c.in-Ok-None.ensures.pins in
+    Gets-refused s t u c.args.file c.args.chunk c.args.mode c.in-Err-acquire.refusal c.pin_chunk.ensures.keeps h none c.acquire.ensures.keeps c.in-Err-acquire.ensures.acquires
