@@ -122,7 +122,7 @@ deed_of s t f d P table x = record { table = table; does = record { half = x.hal
 
 -- ---- the turn was given back
 
-same_file : (s : Chair) (p : Past) (file' f : ℕ) → Holds s file' p → (part s.me.0 f).turn ≡ true → f ≡ file'
+pub same_file : (s : Chair) (p : Past) (file' f : ℕ) → Holds s file' p → (part s.me.0 f).turn ≡ true → f ≡ file'
 same_file s p file' f i on = dite (ℕ_discrete f file') (λ z. z) (λ ne. absurd (true≢false (sym on ∙ i.alone f ne)))
 
 pub held_at : (s : Chair) (p : Past) (file' f : ℕ) → Holds s file' p → (part s.me.0 f).turn ≡ true → Holds s f p

@@ -6,3 +6,4 @@ pub mod Joining
 pub mod Ending
 pub mod Opening
 pub mod Knowing
+pub mod Applying
