@@ -86,8 +86,9 @@ impl FilePass {
     /// seen, and the answer is the plain file's there. A write's end and a truncation's size are at most
     /// `MAX_FILE` bytes.
     ///
-    /// `Unbarred` comes exactly where the operation lowers the file's size, which it tells: no pass has
-    /// a bar yet. `Memory` comes where an allocation was refused. After either nothing has changed.
+    /// No operation lowers the file's size, as no pass has a bar yet: `Unbarred` comes only where it
+    /// would, and tells the size as it is. `Memory` comes where an allocation was refused. After either
+    /// nothing has changed.
     pub fn apply(
         &mut self,
         alloc: Global,
@@ -116,13 +117,8 @@ impl FilePass {
         }
         let applied = hand.apply(alloc, entry)?;
         let newest = &hand.history().as_slice()[applied.place as usize];
-        put_size(
-            &table.table.shared,
-            &mut self.seat,
-            file,
-            newest,
-            hand.size(),
-        );
+        let after = hand.size();
+        put_size(&table.table.shared, &mut self.seat, file, newest, after);
         Ok(applied)
     }
 

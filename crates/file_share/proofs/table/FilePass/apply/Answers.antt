@@ -1,4 +1,4 @@
-use Rattle.std.proofs.Common.{◌≡◌, ◌<◌, ◌≤◌, ℕ, Option, Some, Ok, refl, sym, subst, ap, ◌∙◌, arith}
+use Rattle.std.proofs.Common.{◌≡◌, ◌<◌, Option, Some, Ok, sym, subst, ap, ◌∙◌, arith}
 use Rattle.plain_file.specs.declared.operations.Applied.{Applied}
 use Rattle.plain_file.specs.declared.operations.Entry.{Entry}
 use Rattle.plain_file.specs.History.{Past, grown}
@@ -35,7 +35,7 @@ put_size-requires-clause-size c =
     let q = c.in_ok-applied.ensures in
     let more = q.ok ∙ ap (grown hand) own in
     let last = newest hand.history c.as_slice.result.now e c.index-as_slice-applied.result c.in_ok-applied.applied.place (c.as_slice.ensures ∙ (c.history.ensures ∙ ap (λ (p : Past). p.history) more)) (ap (λ (a : Applied). a.place) q.answer) c.index-as_slice-applied.is in
-    size_after s.seat hand s.file f s.guest ok on bare e c.apply.new.self c.size.result c.size.ensures.value more ∙ ap (size_with s.seat.me.0 f) (sym last)
+    size_after s.seat hand s.file f s.guest ok on bare e c.apply.new.self c.size-after.result c.size-after.ensures.value more ∙ ap (size_with s.seat.me.0 f) (sym last)
 
 pub put_size-requires-clause-safe : goal.put_size-requires-clause-safe
 put_size-requires-clause-safe c low =
@@ -49,7 +49,7 @@ put_size-requires-clause-safe c low =
     let own : record { guest = s.guest; call = c.args.mark.call; op = c.args.op; way = c.args.mark.way } ≡ e = λ i. record { guest = ok.guest_is i; call = c.args.mark.call; op = c.args.op; way = c.args.mark.way } in
     let q = c.in_ok-applied.ensures in
     let more = q.ok ∙ ap (grown hand) own in
-    let after = size_after s.seat hand s.file f s.guest ok on bare e c.apply.new.self c.size.result c.size.ensures.value more in
+    let after = size_after s.seat hand s.file f s.guest ok on bare e c.apply.new.self c.size-after.result c.size-after.ensures.value more in
     let up = no_lower s.seat hand s.file f s.guest ok on bare e c.size-size.result c.size-size.ensures.value c.if-lowers.ensures in
     absurd (omega arith)
 
