@@ -162,7 +162,7 @@ sound_first t firsts is = record {
   in_hand = ((λ f. ap (λ m. (part m.0 f).turn) is ∙ ap (λ (m : Shown). m.turn) (get_map (λ (x : First). unseen) firsts f (first_of no_file))), ap (λ m. m.1) is);
 }
 
-just_seen_at : (ms : List Shown) (f : ℕ) → (in_list (map just_seen ms) f).turn ≡ false
+pub just_seen_at : (ms : List Shown) (f : ℕ) → (in_list (map just_seen ms) f).turn ≡ false
 just_seen_at [] f = refl
 just_seen_at (m ∷ ms) zero = refl
 just_seen_at (m ∷ ms) (suc f) = just_seen_at ms f

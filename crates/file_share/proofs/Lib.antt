@@ -7,3 +7,4 @@ pub mod Ending
 pub mod Opening
 pub mod Knowing
 pub mod Applying
+pub mod Noting

@@ -2,7 +2,8 @@
 //!
 //! A `FileTable` has the files, and each thread has a `FilePass` on it. A table is opened with its first pass, from which
 //! others are split and to which they are joined, and at last it is closed. A pass waits for a file's turn, applies one
-//! operation in it, and gives it back. Noting a size is here as a step on the table alone, with no call of a pass on top.
+//! operation in it, and gives it back; and it looks at a file's size, which it notes.
+//!
 //! Not here yet: leases and bars, without which no operation lowers a file's size, and the traits of boards.
 #![tactic(auto)]
 

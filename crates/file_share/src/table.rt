@@ -1,14 +1,14 @@
 ghost use Rattle.std.specs.Prelude.{◌≡◌, ◌<◌, ◌≤◌, ◌∷◌, [], true, None, Some, IfOk, length, All};
 ghost use Rattle.plain_file.specs.File.{max_file, reach};
-ghost use Rattle.files_core.specs.Files.{file as file_at, give_turn, take_turn};
+ghost use Rattle.files_core.specs.Files.{file as file_at, give_turn, note_size, take_turn};
 ghost use Rattle.file_share.specs.Table.{guests, part, past_of};
 ghost use Rattle.file_share.specs.Steps.{DoesAt, IsAt, NoTurn};
 ghost use Rattle.file_share.specs.Passes.{Account, AllIn, IsOut, MayGive, NotesHold, child, parent};
-ghost use Rattle.file_share.specs.Known.{Applies, AsSeen, Entered, IsDeed, IsIdle, Left, TookIn, entry_of, first_pass};
+ghost use Rattle.file_share.specs.Known.{Applies, AsSeen, Entered, IsDeed, IsIdle, Left, Looked, TookIn, entry_of, first_pass};
 
 use crate::closed::ClosedFiles;
 use crate::share::{Board, close, cut, merge, open};
-use crate::steps::{Chair, Top, lowers, put_size, put_turn, try_turn};
+use crate::steps::{Chair, Top, look_size, lowers, put_size, put_turn, try_turn};
 use plain_file::{Applied, BoardRefusal, Body, Entry, First, List, Mark, Memory, Op};
 use std::alloc::Global;
 use std::marker::Model;
@@ -120,6 +120,16 @@ impl FilePass {
         let after = hand.size();
         put_size(&table.table.shared, &mut self.seat, file, newest, after);
         Ok(applied)
+    }
+
+    /// Looks at a file's size in bytes. The pass notes it, with how much of the history it had seen. While
+    /// the pass has the turn, it is the size after all that the pass has seen and what it applied.
+    pub fn size_now(&mut self, table: &FileTable, file: usize) -> u64
+        requires table { (self.old.table ≡ table.now) × (file < table.now.slots) }
+        ensures deed { IsDeed file note_size self.old self.new }
+        ensures looked { Looked file result self.old.view self.new.view }
+    {
+        look_size(&table.table.shared, &mut self.seat, file)
     }
 
     /// Gives back the turn of a file. What was applied in it is then the newest entry of the history.
