@@ -12,6 +12,8 @@ mod rule;
 mod share;
 mod steps;
 mod table;
+#[cfg(test)]
+mod tests;
 
 pub use closed::ClosedFiles;
 pub use rule::{Files, View};
