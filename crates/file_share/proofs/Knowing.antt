@@ -122,7 +122,7 @@ deed_of s t f d P table x = record { table = table; does = record { half = x.hal
 
 -- ---- the turn was given back
 
-same_file : (s : Chair) (p : Past) (file' f : ℕ) → Holds s file' p → (part s.me.0 f).turn ≡ true → f ≡ file'
+pub same_file : (s : Chair) (p : Past) (file' f : ℕ) → Holds s file' p → (part s.me.0 f).turn ≡ true → f ≡ file'
 same_file s p file' f i on = dite (ℕ_discrete f file') (λ z. z) (λ ne. absurd (true≢false (sym on ∙ i.alone f ne)))
 
 pub held_at : (s : Chair) (p : Past) (file' f : ℕ) → Holds s file' p → (part s.me.0 f).turn ≡ true → Holds s f p
@@ -162,7 +162,7 @@ sound_first t firsts is = record {
   in_hand = ((λ f. ap (λ m. (part m.0 f).turn) is ∙ ap (λ (m : Shown). m.turn) (get_map (λ (x : First). unseen) firsts f (first_of no_file))), ap (λ m. m.1) is);
 }
 
-just_seen_at : (ms : List Shown) (f : ℕ) → (in_list (map just_seen ms) f).turn ≡ false
+pub just_seen_at : (ms : List Shown) (f : ℕ) → (in_list (map just_seen ms) f).turn ≡ false
 just_seen_at [] f = refl
 just_seen_at (m ∷ ms) zero = refl
 just_seen_at (m ∷ ms) (suc f) = just_seen_at ms f

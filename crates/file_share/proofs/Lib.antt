@@ -6,3 +6,5 @@ pub mod Joining
 pub mod Ending
 pub mod Opening
 pub mod Knowing
+pub mod Applying
+pub mod Noting

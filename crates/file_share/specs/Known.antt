@@ -1,14 +1,20 @@
 -- A pass as its callers see it.
-use Rattle.std.specs.Prelude.{◌≡◌, ◌≢◌, ℕ, ◌<◌, ◌≤◌, List, [], ◌∷◌, true, false, Option, Some, None, IfSome}
+use Rattle.std.specs.Prelude.{◌≡◌, ◌≢◌, ℕ, ◌<◌, ◌≤◌, List, [], ◌∷◌, ◌++◌, length, true, false, Option, Some, None, IfSome, Result, Ok, Err}
 use mathlib.Core.Option.{some}
 use lib.ListN.{get_elem?}
 use Rattle.atomic_table.specs.Seated.{TableId}
+use Rattle.plain_file.specs.declared.operations.Applied.{Applied}
 use Rattle.plain_file.specs.declared.operations.Entry.{Entry}
 use Rattle.plain_file.specs.declared.operations.First.{First}
-use Rattle.plain_file.specs.History.{Past}
-use Rattle.files_core.specs.Files.{Deed, with_entry}
+use Rattle.plain_file.specs.declared.operations.Mark.{Mark}
+use Rattle.plain_file.specs.declared.operations.Op.{Op}
+use Rattle.plain_file.specs.declared.refusals.BoardRefusal.{BoardRefusal}
+use Rattle.plain_file.specs.declared.refusals.BoardRefusal.TheVariants as refusals
+use Rattle.plain_file.specs.History.{Past, next_answer}
+use Rattle.files_core.specs.Files.{Deed, note, noted_after, set_size, with_entry}
 use Rattle.files_core.specs.Good.{size_of}
 use Rattle.files_core.specs.Laws.{Begins}
+use Rattle.files_core.specs.Shown.{Shown}
 use Rattle.file_share.specs.Table.{View, part, first_at, guests, opener}
 use Rattle.file_share.specs.Steps.{Does, Always, Chair, NoTurn}
 use Rattle.file_share.specs.Passes.{own, joined}
@@ -57,6 +63,43 @@ pub record Entered (f : ℕ) (v w : View) : Type 0 where
   pub nothing : (part w f).applied ≡ None
   -- the size doesn't lie below what was noted under a lease
   pub noted : IfSome (part v f).noted (λ z. z ≤ size_of (first_at w f) (part w f).seen)
+
+-- the file as the pass has seen it
+abbrev pub past_seen : View → ℕ → Past
+past_seen v f = record { first = first_at v f; history = (part v f).seen }
+
+-- its size there
+abbrev pub size_seen : View → ℕ → ℕ
+size_seen v f = size_of (first_at v f) (part v f).seen
+
+-- its size with one more entry
+abbrev pub size_with : View → ℕ → Entry → ℕ
+size_with v f e = size_of (first_at v f) ((part v f).seen ++ e ∷ [])
+
+-- the entry that the pass makes of an operation
+abbrev pub entry_of : View → Mark → Op → Entry
+entry_of v mark op = record { guest = v.guest; call = mark.call; op = op; way = mark.way }
+
+-- The entry is the one that was applied in this turn, which the pass still has. It has seen no more.
+pub record IsApplied (f : ℕ) (e : Entry) (v w : View) : Type 0 where
+  pub seen : (part w f).seen ≡ (part v f).seen
+  pub turn : (part w f).turn ≡ true
+  pub applied : (part w f).applied ≡ Some e
+
+-- what `apply` may answer, and what it leaves
+abbrev pub Applies : Known → ℕ → Entry → Result Applied BoardRefusal → Known → Type 0
+Applies p f e (Ok a) q = (size_seen p.view f ≤ size_with p.view f e) × (a ≡ next_answer (past_seen p.view f) e.op) × IsDeed f (set_size e) p q × IsApplied f e p.view q.view
+Applies p f e (Err (refusals.Unbarred size)) q = (size_with p.view f e < size_seen p.view f) × (size ≡ size_seen p.view f) × (q ≡ p)
+Applies p f e (Err refusals.Memory) q = q ≡ p
+
+-- what a pass is shown of a file after it noted this size: all else is as before
+abbrev pub with_note : ℕ → Shown → Shown
+with_note z m = record m { noted = noted_after m.leases z m.noted; notes = m.notes ++ note z (length m.seen) ∷ [] }
+
+-- The size was looked at and noted. It is that after all that is there, where the pass has the turn.
+pub record Looked (f z : ℕ) (v w : View) : Type 0 where
+  pub shown : part w f ≡ with_note z (part v f)
+  pub current : (part v f).turn ≡ true → z ≡ size_of (first_at v f) (whole_seen v f)
 
 -- The turn was given back: what was applied in it is the newest entry that was seen.
 pub record Left (f : ℕ) (v w : View) : Type 0 where

@@ -1,14 +1,14 @@
 // Single steps on the table, each a deed on one file.
-ghost use Rattle.std.specs.Prelude.{◌≡◌, ◌<◌, ◌≤◌, ◌++◌, ◌∷◌, [], true, None, Some, MatchOption};
+ghost use Rattle.std.specs.Prelude.{◌≡◌, ◌<◌, ◌≤◌, ◌++◌, ◌∷◌, [], true, None, Some, MatchBool, MatchOption};
 ghost use Rattle.plain_file.specs.File.{max_file, reach};
-ghost use Rattle.files_core.specs.Files.{file as file_at, give_turn, note_size, set_size, take_turn, with_entry};
+ghost use Rattle.files_core.specs.Files.{file as file_at, give_turn, note_size, set_size, sized, take_turn, with_entry};
 ghost use Rattle.files_core.specs.Good.{size_of};
 ghost use Rattle.file_share.specs.Table.{first_at, part, past_of};
 ghost use Rattle.file_share.specs.Steps.{Always, DoesAt, IsAt, NoTurn};
 
 use crate::rule::{Files, GiveTurn, Naming, NoteSize, SetSize, TakeTurn, View};
 use atomic_table::{Seat, Shared};
-use plain_file::{Body, Entry, First, List};
+use plain_file::{Body, Entry, First, List, Op};
 use std::marker::Brand;
 
 pub(crate) type Chair = Seat<Option<Body>, View>;
@@ -54,6 +54,17 @@ pub(crate) fn put_size(top: &Top, seat: &mut Chair, file: usize, entry: &Entry, 
     ensures deed { DoesAt file (set_size entry.now) Always seat.old seat.new × (seat.new.me.1 ≡ seat.old.me.1) }
 {
     put_size_of::<Brand>(top, seat, file, entry, size);
+}
+
+// Whether an operation makes a file of this size smaller: only a truncation does.
+#[tactic(auto, unfolding(files_core::specs::Files::sized))]
+pub(crate) fn lowers(op: &Op, size: u64) -> bool
+    ensures { MatchBool result (sized size op.now < size) (size ≤ sized size op.now) }
+{
+    match op {
+        Op::Truncate { size: wanted } => *wanted < size,
+        Op::Read { .. } | Op::Write { .. } | Op::Size => false,
+    }
 }
 
 // Gives the turn back, with the contents.

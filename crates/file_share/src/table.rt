@@ -1,15 +1,15 @@
 ghost use Rattle.std.specs.Prelude.{◌≡◌, ◌<◌, ◌≤◌, ◌∷◌, [], true, None, Some, IfOk, length, All};
-ghost use Rattle.plain_file.specs.File.{max_file};
-ghost use Rattle.files_core.specs.Files.{file as file_at, give_turn, take_turn};
+ghost use Rattle.plain_file.specs.File.{max_file, reach};
+ghost use Rattle.files_core.specs.Files.{file as file_at, give_turn, note_size, take_turn};
 ghost use Rattle.file_share.specs.Table.{guests, part, past_of};
 ghost use Rattle.file_share.specs.Steps.{DoesAt, IsAt, NoTurn};
 ghost use Rattle.file_share.specs.Passes.{Account, AllIn, IsOut, MayGive, NotesHold, child, parent};
-ghost use Rattle.file_share.specs.Known.{AsSeen, Entered, IsDeed, IsIdle, Left, TookIn, first_pass};
+ghost use Rattle.file_share.specs.Known.{Applies, AsSeen, Entered, IsDeed, IsIdle, Left, Looked, TookIn, entry_of, first_pass};
 
 use crate::closed::ClosedFiles;
 use crate::share::{Board, close, cut, merge, open};
-use crate::steps::{Chair, Top, put_turn, try_turn};
-use plain_file::{Body, First, List, Memory};
+use crate::steps::{Chair, Top, look_size, lowers, put_size, put_turn, try_turn};
+use plain_file::{Applied, BoardRefusal, Body, Entry, First, List, Mark, Memory, Op};
 use std::alloc::Global;
 use std::marker::Model;
 use std::sync::Wait;
@@ -79,6 +79,57 @@ impl FilePass {
         let hand = wait_turn(rt, &table.table.shared, &mut self.seat, file, self.guest);
         self.hand = Some(hand);
         self.file = file;
+    }
+
+    /// Applies an operation to a file, in a turn in which nothing was applied. Its entry has the pass's
+    /// guest, and the call and way of the mark. It gets the next place of the history that the pass has
+    /// seen, and the answer is the plain file's there. A write's end and a truncation's size are at most
+    /// `MAX_FILE` bytes.
+    ///
+    /// No operation lowers the file's size, as no pass has a bar yet: `Unbarred` comes only where it
+    /// would, and tells the size as it is. `Memory` comes where an allocation was refused. After either
+    /// nothing has changed.
+    pub fn apply(
+        &mut self,
+        alloc: Global,
+        table: &FileTable,
+        file: usize,
+        mark: Mark,
+        op: Op,
+    ) -> Result<Applied, BoardRefusal>
+        requires table { (self.old.table ≡ table.now) × (file < table.now.slots) }
+        requires turn { ((part self.old.view file).turn ≡ true) × ((part self.old.view file).applied ≡ None) }
+        requires fits { reach op ≤ max_file }
+        ensures { Applies self.old file (entry_of self.old.view mark op) result self.new }
+    {
+        let entry = Entry {
+            guest: self.guest,
+            call: mark.call,
+            op,
+            way: mark.way,
+        };
+        let Some(hand) = &mut self.hand else {
+            unreachable!()
+        };
+        let size = hand.size();
+        if lowers(&entry.op, size) {
+            return Err(BoardRefusal::Unbarred { size });
+        }
+        let applied = hand.apply(alloc, entry)?;
+        let newest = &hand.history().as_slice()[applied.place as usize];
+        let after = hand.size();
+        put_size(&table.table.shared, &mut self.seat, file, newest, after);
+        Ok(applied)
+    }
+
+    /// Looks at a file's size in bytes. The pass notes it, with how much of the history it had seen. While
+    /// the pass has the turn, it is the size after all that the pass has seen and what it applied.
+    pub fn size_now(&mut self, table: &FileTable, file: usize) -> u64
+        requires table { (self.old.table ≡ table.now) × (file < table.now.slots) }
+        ensures deed { IsDeed file note_size self.old self.new }
+        ensures looked { Looked file result self.old.view self.new.view }
+    {
+        look_size(&table.table.shared, &mut self.seat, file)
     }
 
     /// Gives back the turn of a file. What was applied in it is then the newest entry of the history.
