@@ -25,7 +25,7 @@ returns-in-Ok-go_through-clause-home g c =
     let t = stand (g.W.Wire.wire c.get_chunk.new.self.dax.driver.wire) (g.F.FileBoard.board c.get_chunk.new.self.dax.files) (g.R.MapBoard.map c.get_chunk.new.self.dax.ranges) in
     rw (c.go_through.ensures.driver, c.go_through.ensures.refs ∙ c.get_chunk.ensures.refs)
     (IsHome-direct (g.W.Wire.wire c.get_chunk.new.self.dax.driver.wire) (g.F.FileBoard.board c.get_chunk.new.self.dax.files) (g.R.MapBoard.map c.get_chunk.new.self.dax.ranges) c.args.self.now.dax.refs c.args.file c.args.call (ways.Via c.in-Ok.pinned.through None) c.args.op c.go_through.result (g.F.FileBoard.board c.go_through.new.self.dax.files) c.in-Ok.pinned.range (g.R.MapBoard.map c.go_through.new.self.dax.ranges) c.go_through.ensures.applied c.go_through.ensures.plain c.go_through.ensures.sound c.go_through.ensures.back
-      (IsHome-keeps s t c.args.self.now.dax.refs c.get_chunk.ensures.keeps c.requires.home))
+    (IsHome-keeps s t c.args.self.now.dax.refs c.get_chunk.ensures.keeps c.requires.home))
 
 pub returns-in-Err-go_through-clause-home : goal.returns-in-Err-go_through-clause-home
 returns-in-Err-go_through-clause-home g c =
@@ -33,4 +33,4 @@ returns-in-Err-go_through-clause-home g c =
     let t = stand (g.W.Wire.wire c.get_chunk.new.self.dax.driver.wire) (g.F.FileBoard.board c.get_chunk.new.self.dax.files) (g.R.MapBoard.map c.get_chunk.new.self.dax.ranges) in
     rw (c.go_through.ensures.driver, c.go_through.ensures.refs ∙ c.get_chunk.ensures.refs)
     (IsHome-direct (g.W.Wire.wire c.get_chunk.new.self.dax.driver.wire) (g.F.FileBoard.board c.get_chunk.new.self.dax.files) (g.R.MapBoard.map c.get_chunk.new.self.dax.ranges) c.args.self.now.dax.refs c.args.file c.args.call (ways.Via c.in-Ok.pinned.through None) c.args.op c.go_through.result (g.F.FileBoard.board c.go_through.new.self.dax.files) c.in-Ok.pinned.range (g.R.MapBoard.map c.go_through.new.self.dax.ranges) c.go_through.ensures.applied c.go_through.ensures.plain c.go_through.ensures.sound c.go_through.ensures.back
-      (IsHome-keeps s t c.args.self.now.dax.refs c.get_chunk.ensures.keeps c.requires.home))
+    (IsHome-keeps s t c.args.self.now.dax.refs c.get_chunk.ensures.keeps c.requires.home))
