@@ -18,6 +18,8 @@ mod refusal_tests;
 mod steps;
 #[cfg(test)]
 mod tests;
+#[cfg(test)]
+mod walk_tests;
 
 pub use events::{Event, GuestEvent};
 pub use laws::dax_core_laws;

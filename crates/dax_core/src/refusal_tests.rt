@@ -46,6 +46,19 @@ fn map(range: u32, file: u32, chunk: u32, mode: Mode) -> Event {
     Event::SetMap { range, to }
 }
 
+fn settle(chunk: u32, mode: Mode) -> Event {
+    Event::SettleMapped { chunk, mode }
+}
+
+// Guest 0 does this 64 times, and no more.
+fn check_most(rt: &impl Abort, core: &mut Core, event: &Event) -> Result<(), Memory> {
+    for _time in 0..64 {
+        assert!(rt; core.step(0, event)?);
+    }
+    assert!(rt; !core.step(0, event)?);
+    Ok(())
+}
+
 #[test]
 fn refuses_turns(rt: HostRuntime) -> Result<(), Fail> {
     let mut core = two_guests(rt.alloc(), 4)?;
@@ -92,10 +105,6 @@ fn refuses_leases_and_bars(rt: HostRuntime) -> Result<(), Fail> {
 #[test]
 fn refuses_trees_and_ranges(rt: HostRuntime) -> Result<(), Fail> {
     let mut core = two_guests(rt.alloc(), 4)?;
-    let settle = Event::SettleMapped {
-        chunk: 0,
-        mode: Mode::R,
-    };
     check(&rt, &mut core, 0, Event::Enter { file: 2 }, false)?;
     check(&rt, &mut core, 0, Event::Look { range: 2 }, false)?;
     check(&rt, &mut core, 0, Event::Take { range: 2 }, false)?;
@@ -109,23 +118,46 @@ fn refuses_trees_and_ranges(rt: HostRuntime) -> Result<(), Fail> {
     check(&rt, &mut core, 0, map(0, 2, 0, Mode::R), false)?;
     check(&rt, &mut core, 0, map(0, 0, 32, Mode::R), false)?;
     check(&rt, &mut core, 0, map(0, 0, 0, Mode::R), true)?;
-    check(&rt, &mut core, 0, settle, false)?;
+    check(&rt, &mut core, 0, settle(0, Mode::R), false)?;
     check(&rt, &mut core, 0, Event::Enter { file: 0 }, true)?;
     check(&rt, &mut core, 1, Event::Enter { file: 0 }, false)?;
     check(&rt, &mut core, 0, Event::Enter { file: 1 }, false)?;
+    check(&rt, &mut core, 0, settle(1, Mode::R), false)?;
+    check(&rt, &mut core, 0, settle(0, Mode::W), false)?;
+    check(&rt, &mut core, 0, settle(0, Mode::R), true)?;
+    check(&rt, &mut core, 1, Event::Take { range: 0 }, false)?;
+    check(&rt, &mut core, 0, Event::Take { range: 1 }, true)?;
+    check(&rt, &mut core, 0, map(1, 0, 0, Mode::R), true)?;
+    check(&rt, &mut core, 0, settle(0, Mode::R), false)?;
+    check(&rt, &mut core, 0, map(1, 1, 0, Mode::R), true)?;
+    check(&rt, &mut core, 0, settle(0, Mode::R), false)?;
+    check(&rt, &mut core, 0, Event::SettleFree, true)?;
+    check(&rt, &mut core, 0, Event::Leave, true)?;
+    check(&rt, &mut core, 1, Event::Take { range: 0 }, false)?;
+    check(&rt, &mut core, 1, Event::Enter { file: 1 }, true)?;
+    check(&rt, &mut core, 1, Event::Take { range: 0 }, false)?;
     Ok(())
 }
 
 // Guest 0 has the tree of file 0, and range 0 for its chunk 0.
 fn placed(rt: &impl Abort, core: &mut Core) -> Result<(), Memory> {
-    let settle = Event::SettleMapped {
-        chunk: 0,
-        mode: Mode::R,
-    };
     check(rt, core, 0, Event::Take { range: 0 }, true)?;
     check(rt, core, 0, map(0, 0, 0, Mode::R), true)?;
     check(rt, core, 0, Event::Enter { file: 0 }, true)?;
-    check(rt, core, 0, settle, true)
+    check(rt, core, 0, settle(0, Mode::R), true)
+}
+
+#[test]
+fn refuses_a_lease_and_a_pin_too_many(rt: HostRuntime) -> Result<(), Fail> {
+    let mut core = two_guests(rt.alloc(), 4)?;
+    check_most(&rt, &mut core, &Event::Lease { file: 0 })?;
+    check(&rt, &mut core, 0, Event::Lease { file: 1 }, true)?;
+    check(&rt, &mut core, 1, Event::Lease { file: 0 }, true)?;
+    placed(&rt, &mut core)?;
+    check_most(&rt, &mut core, &Event::Pin { range: 0 })?;
+    check(&rt, &mut core, 0, Event::Unpin { range: 0 }, true)?;
+    check(&rt, &mut core, 0, Event::Pin { range: 0 }, true)?;
+    Ok(())
 }
 
 #[test]
