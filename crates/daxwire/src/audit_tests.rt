@@ -16,19 +16,19 @@ fn put_lines(out: &mut Vec<u8>, text: &[u8]) -> Result<(), Fail> {
 // Adds a text with the piece `OLD>NEW` replaced where it stands first.
 fn put_replaced(out: &mut Vec<u8>, text: &[u8], piece: &str) -> Result<(), Fail> {
     let (old, new) = piece.split_once('>').unwrap_or(("", ""));
-    let (old, new) = (old.as_bytes(), new.as_bytes());
-    let mut rest = text;
-    while !rest.is_empty() && !old.is_empty() {
-        if rest.starts_with(old) {
-            out.extend_from_slice(new)?;
-            rest = rest.split_at(old.len()).1;
-            break;
+    let mut wanted = !old.is_empty();
+    let mut skip = 0usize;
+    for at in 0..text.len() {
+        if wanted && text[at..].starts_with(old.as_bytes()) {
+            out.extend_from_slice(new.as_bytes())?;
+            skip = old.len();
+            wanted = false;
         }
-        let (byte, after) = rest.split_at(1);
-        out.extend_from_slice(byte)?;
-        rest = after;
+        if skip == 0 {
+            out.push(text[at])?;
+        }
+        skip = skip.saturating_sub(1);
     }
-    out.extend_from_slice(rest)?;
     Ok(())
 }
 
