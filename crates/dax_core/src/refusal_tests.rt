@@ -3,7 +3,7 @@ ghost use Rattle.plain_file.specs.File.{max_file};
 
 use super::*;
 use page_map::{Mode, Target};
-use plain_file::{Entry, First, List, Memory, Op, Way};
+use plain_file::{Blob, Entry, First, List, Memory, Op, Way};
 use std::alloc::Global;
 use std::process::Abort;
 use std::test::Fail;
@@ -41,6 +41,19 @@ fn cut(guest: u32, size: u64) -> Event {
     }
 }
 
+// Guest 0 writes one byte at this place.
+fn put_at(alloc: Global, off: u64) -> Result<Event, Memory> {
+    let bytes = Blob::copy_of(alloc, b"a")?;
+    Ok(Event::SetSize {
+        entry: Entry {
+            guest: 0,
+            call: 0,
+            op: Op::Write { off, bytes },
+            way: Way::Req,
+        },
+    })
+}
+
 fn map(range: u32, file: u32, chunk: u32, mode: Mode) -> Event {
     let to = Some(Target { file, chunk, mode });
     Event::SetMap { range, to }
@@ -71,6 +84,8 @@ fn refuses_turns(rt: HostRuntime) -> Result<(), Fail> {
     check(&rt, &mut core, 1, cut(1, 4), false)?;
     check(&rt, &mut core, 0, cut(1, 4), false)?;
     check(&rt, &mut core, 0, cut(0, 67_108_865), false)?;
+    let behind = put_at(rt.alloc(), 67_108_864)?;
+    check(&rt, &mut core, 0, behind, false)?;
     check(&rt, &mut core, 0, cut(0, 3), false)?;
     check(&rt, &mut core, 0, cut(0, 4), true)?;
     check(&rt, &mut core, 0, cut(0, 4), false)?;
@@ -164,6 +179,7 @@ fn refuses_a_lease_and_a_pin_too_many(rt: HostRuntime) -> Result<(), Fail> {
 fn refuses_pins_and_upgrades(rt: HostRuntime) -> Result<(), Fail> {
     let mut core = two_guests(rt.alloc(), 4)?;
     placed(&rt, &mut core)?;
+    check(&rt, &mut core, 0, settle(1, Mode::R), false)?;
     check(&rt, &mut core, 0, Event::Pin { range: 1 }, false)?;
     check(&rt, &mut core, 1, Event::Pin { range: 0 }, false)?;
     check(&rt, &mut core, 0, Event::Unpin { range: 0 }, false)?;
