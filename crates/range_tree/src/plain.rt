@@ -1,11 +1,13 @@
-ghost use Rattle.std.specs.Prelude.{◌≡◌, ◌≤◌, IfOk};
-ghost use Rattle.page_map.specs.Board.{is_at_chunk, is_moved};
+ghost use Rattle.std.specs.Prelude.{◌≡◌, ◌<◌, ◌≤◌, IfOk};
+ghost use Rattle.page_map.specs.Board.{known_files, log_at, is_at_chunk, is_moved};
 ghost use Rattle.range_tree.specs.Trees.{max_ranges};
 ghost use Rattle.range_tree.specs.Plain.{new_ranges, max_files};
 
 use crate::slots::is_written;
 use crate::trees::Tree;
-use page_map::{MAX_CHUNKS, MapBoard, Mode, PAGES_OF_RANGE, RANGE_SIZE, RangeWord, Span, Target};
+use page_map::{
+    LogEntry, MAX_CHUNKS, MapBoard, Mode, PAGES_OF_RANGE, RANGE_SIZE, RangeWord, Span, Target,
+};
 use plain_file::Memory;
 use std::alloc::Global;
 use std::marker::Model;
@@ -95,6 +97,14 @@ impl PlainRanges {
             owners: vec![in alloc; None; count]?,
             maps: vec![in alloc; None; count]?,
         })
+    }
+
+    /// The whole placement log of a file, from its first entry on.
+    pub fn log(&self, file: u32) -> &[LogEntry]
+        requires { file < known_files self.now }
+        ensures { result.now ≡ log_at self.now file }
+    {
+        self.trees[file as usize].log()
     }
 }
 
