@@ -1,5 +1,5 @@
 -- What a read and a write of a guest answer, and what they leave.
-use Rattle.std.specs.Prelude.{◌≡◌, ◌≢◌, ℕ, ◌+◌, ◌≤◌, true, false, List, length, None, Result, Ok, Err, ◌⊎◌}
+use Rattle.std.specs.Prelude.{◌≡◌, ◌≢◌, ℕ, ◌+◌, ◌<◌, ◌≤◌, true, false, List, length, None, Result, Ok, Err, ◌⊎◌}
 use Rattle.plain_file.specs.Counts.{Rose}
 use Rattle.plain_file.specs.declared.operations.Op.{Op}
 use Rattle.plain_file.specs.declared.operations.Op.TheVariants as ops
@@ -45,9 +45,9 @@ pub record LeavesAll (old new : Stand) : Type 0 where
 abbrev pub one_more_pin : MapView → ℕ → MapView
 one_more_pin v range = record v { hands = with_one v range v.hands.moves }
 
--- A chunk of the interval wasn't placed in what was seen of the log at some moment in the call, and each range was moving or pinned. The pins noted with the looks are those that the board had before, and where the interval meets two chunks, on one range perhaps one more.
+-- There are ranges, a chunk of the interval wasn't placed in what was seen of the log at some moment in the call, and each range was moving or pinned. The pins noted with the looks are those that the board had before, and where the interval meets two chunks, on one range perhaps one more.
 abbrev pub IsBusy : MapView → ℕ → ℕ → ℕ → List Look → MapView → Type 0
-IsBusy old file off len looked new = (looked ≡ looks_from 0 new.ranges.looks)
+IsBusy old file off len looked new = (0 < range_count old) × (looked ≡ looks_from 0 new.ranges.looks)
     × ((AllBlocked old new × IsUnplaced old file (first_chunk off) new)
     ⊎ ((last_chunk off len ≡ first_chunk off + 1) × ((range : ℕ) × AllBlocked (one_more_pin old range) new) × IsUnplaced old file (first_chunk off + 1) new))
 
