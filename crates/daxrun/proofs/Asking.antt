@@ -78,24 +78,24 @@ live_again wire gives says before old m result after new answer keeps boards liv
 
 -- ---- each of them
 
--- a session of protocol 7.31 that asks for no direct access
-abbrev asked : InitIn
-asked = record { major = 7; minor = 31; max_readahead = 131072; flags = if false then 2 ^ 26 else 0; flags2 = None }
+-- a session of protocol 7.31 that asks for direct access or not
+abbrev asked : Bool → InitIn
+asked ask_map = record { major = 7; minor = 31; max_readahead = 131072; flags = if ask_map then 2 ^ 26 else 0; flags2 = None }
 
--- what the device tells of a session without direct access
-abbrev pub told_by : World → InitOut
-told_by w = init_out_with (session_flags w.state.pages asked) asked
+-- what the device tells of such a session
+abbrev pub told_by : Bool → World → InitOut
+told_by ask_map w = init_out_with (session_flags w.state.pages (asked ask_map)) (asked ask_map)
 
 abbrev pub SaysInit : InitOut → Reply → Type 0
 SaysInit out reply = reply ≡ replies.Init out
 
-pub begins : {S : Type 0} (wire : S → WireView) (gives : S → Boards → Sent → Result (List ℕ) WireError → S → Boards → Type 0) (before : S) (old : Boards) (unique : ℕ) (result : Result InitOut WireRefusal) (after : S) (new : Boards)
-    → Answers wire gives SaysInit before old (message unique 0 (init_request false)) result after new → IsLive (wire before) old
-    → Finishes SaysInit (replies.Init (told_by (world_at (wire before) old))) (record (world_at (wire before) old) { state = begun (wire before).state }) result (world_at (wire after) new)
+pub begins : {S : Type 0} (wire : S → WireView) (gives : S → Boards → Sent → Result (List ℕ) WireError → S → Boards → Type 0) (before : S) (old : Boards) (unique : ℕ) (ask_map : Bool) (result : Result InitOut WireRefusal) (after : S) (new : Boards)
+    → Answers wire gives SaysInit before old (message unique 0 (init_request ask_map)) result after new → IsLive (wire before) old
+    → Finishes SaysInit (replies.Init (told_by ask_map (world_at (wire before) old))) (record (world_at (wire before) old) { state = begun (wire before).state }) result (world_at (wire after) new)
 unfolding form_of
-begins wire gives before old unique result after new answer live =
+begins wire gives before old unique ask_map result after new answer live =
     let w = world_at (wire before) old in
-    record { by = succeeded wire gives SaysInit before old (message unique 0 (init_request false)) (replies.Init (told_by w)) (record w { state = begun w.state }) result after new answer live.honest live.whole refl (init_succeeds w 0 asked refl (omega arith) (omega arith)) }
+    record { by = succeeded wire gives SaysInit before old (message unique 0 (init_request ask_map)) (replies.Init (told_by ask_map w)) (record w { state = begun w.state }) result after new answer live.honest live.whole refl (init_succeeds w 0 (asked ask_map) refl (omega arith) (omega arith)) }
 
 abbrev pub SaysEntry : EntryOut → Reply → Type 0
 SaysEntry out reply = reply ≡ replies.Entry out
@@ -126,73 +126,7 @@ opens wire gives before old unique node result after new answer live started kno
     let w = world_at (wire before) old in
     record { by = succeeded wire gives SaysOpened before old (message unique node open_request) (replies.Opened (open_out_of w.state)) (record w { state = with_open w.state node }) result after new answer live.honest live.whole refl (open_succeeds w node (record { flags = 2; open_flags = 0 }) started known (is_file w.state node made) may) }
 
--- the bytes that a read gives
-abbrev pub part_of : Boards → ℕ → ℕ → ℕ → List ℕ
-part_of b node off len = take len (drop off (bytes_now (file_at b.files (node - 2))))
-
-abbrev pub SaysBytes : List ℕ → Reply → Type 0
-SaysBytes bytes reply = reply ≡ replies.Bytes bytes
-
-pub reads : {S : Type 0} (wire : S → WireView) (gives : S → Boards → Sent → Result (List ℕ) WireError → S → Boards → Type 0) (before : S) (old : Boards) (unique : ℕ) (at : FileRef) (off len : ℕ) (result : Result (List ℕ) WireRefusal) (after : S) (new : Boards)
-    → Answers wire gives SaysBytes before old (message unique at.node (read_request at off len)) result after new → IsLive (wire before) old
-    → HasOpenFile (wire before).state at.node at.fh → len ≤ max_transfer
-    → Finishes SaysBytes (replies.Bytes (part_of old at.node off len)) (record (world_at (wire before) old) { files = applied old.files (at.node - 2) (ops.Read off len) }) result (world_at (wire after) new)
-unfolding form_of
-reads wire gives before old unique at off len result after new answer live h small =
-    let w = world_at (wire before) old in
-    record { by = succeeded wire gives SaysBytes before old (message unique at.node (read_request at off len)) (replies.Bytes (part_of old at.node off len)) (record w { files = applied w.files (at.node - 2) (ops.Read off len) }) result after new answer live.honest live.whole refl (read_succeeds w at.node (record { fh = at.fh; offset = off; size = len; read_flags = 0; lock_owner = 0; flags = 0 }) h small) }
-
-pub writes : {S : Type 0} (wire : S → WireView) (gives : S → Boards → Sent → Result (List ℕ) WireError → S → Boards → Type 0) (before : S) (old : Boards) (unique : ℕ) (at : FileRef) (off : ℕ) (bytes : List ℕ) (result : Result ℕ WireRefusal) (after : S) (new : Boards)
-    → Answers wire gives SaysWrote before old (message unique at.node (write_request at off bytes)) result after new → IsLive (wire before) old
-    → HasOpenFile (wire before).state at.node at.fh → length bytes ≤ max_transfer → off + length bytes ≤ max_file
-    → Finishes SaysWrote (replies.Wrote (record { size = length bytes })) (record (world_at (wire before) old) { files = applied old.files (at.node - 2) (ops.Write off bytes) }) result (world_at (wire after) new)
-unfolding form_of
-writes wire gives before old unique at off bytes result after new answer live h small within =
-    let w = world_at (wire before) old in
-    record { by = succeeded wire gives SaysWrote before old (message unique at.node (write_request at off bytes)) (replies.Wrote (record { size = length bytes })) (record w { files = applied w.files (at.node - 2) (ops.Write off bytes) }) result after new answer live.honest live.whole refl (write_succeeds w at.node (write_at at.fh off (length bytes)) bytes h small within) }
-
--- the attributes of a file of this size
-abbrev pub told_size : World → ℕ → ℕ → AttrOut
-told_size w node size = attr_out_of (file_attr w.state node size)
-
-abbrev pub SaysAttr : AttrOut → Reply → Type 0
-SaysAttr out reply = reply ≡ replies.Attr out
-
-links_fit : (b : Bool) → (if b then 1 else 0) < 2 ^ 32
-links_fit true = omega arith
-links_fit false = omega arith
-
-getattr_succeeds : (w : World) (node : ℕ) (r : GetattrIn) → r.getattr_flags ≡ 1 → HasOpenFile w.state node r.fh → length w.state.made ≤ 16 → size_of (file_at w.files (node - 2)) ≤ max_file
-    → Succeeds w node (asks.Getattr r) (replies.Attr (told_size w node (size_of (file_at w.files (node - 2))))) (record w { files = applied w.files (node - 2) ops.Size })
-unfolding answered getattr is_made file_attr file_answer answer size_in is_init is_forget kind_of reply_form form_of is_reply reply_parts attr_out attr_rec FitsParts
-getattr_succeeds w node r flags h few small =
-    let made = h.made in
-    let low : node ≤ 17 = grind (arith, common_steps) in
-    let known = is_known-open w.state node r.fh h in
-    let file = is_file w.state node h.made in
-    let allowed = may_apply_size w.files (node - 2) in
-    record {
-      may_ask = rw h.started refl;
-      has_reply = refl;
-      gives = rw (known, flags, h.handle, file, allowed) refl;
-      good = refl;
-      formed = refl;
-      fits = (omega arith, (omega arith, (tt, (omega arith, (omega arith, (omega arith, (omega arith, (omega arith, (omega arith, (omega arith, (omega arith, (omega arith, (omega arith, (links_fit (is_some (made_at w.state node).name), (omega arith, (omega arith, (omega arith, (omega arith, (omega arith, tt)))))))))))))))))));
-    }
-
-pub sizes : {S : Type 0} (wire : S → WireView) (gives : S → Boards → Sent → Result (List ℕ) WireError → S → Boards → Type 0) (before : S) (old : Boards) (unique : ℕ) (at : FileRef) (result : Result AttrOut WireRefusal) (after : S) (new : Boards)
-    → Answers wire gives SaysAttr before old (message unique at.node (getattr_request at)) result after new → IsLive (wire before) old
-    → HasOpenFile (wire before).state at.node at.fh → size_of (file_at old.files (at.node - 2)) ≤ max_file
-    → Finishes SaysAttr (replies.Attr (told_size (world_at (wire before) old) at.node (size_of (file_at old.files (at.node - 2))))) (record (world_at (wire before) old) { files = applied old.files (at.node - 2) ops.Size }) result (world_at (wire after) new)
-unfolding form_of
-sizes wire gives before old unique at result after new answer live h small =
-    let w = world_at (wire before) old in
-    record { by = succeeded wire gives SaysAttr before old (message unique at.node (getattr_request at)) (replies.Attr (told_size w at.node (size_of (file_at old.files (at.node - 2))))) (record w { files = applied w.files (at.node - 2) ops.Size }) result after new answer live.honest live.whole refl (getattr_succeeds w at.node (record { getattr_flags = 1; fh = at.fh }) refl h live.servable.few small) }
-
 -- ---- what a reply says
-
-pub attr_is : (r t : AttrOut) → replies.Attr r ≡ replies.Attr t → t ≡ r
-attr_is r t e = cc
 
 pub entry_is : (r t : EntryOut) → replies.Entry r ≡ replies.Entry t → t ≡ r
 entry_is r t e = cc
@@ -202,15 +136,6 @@ same_opened r t e = cc
 
 pub opened_is : (fh : ℕ) (r : OpenOut) → SaysOpened fh (replies.Opened r) → fh ≡ r.fh
 opened_is fh r (opened, e, is) = is ∙ ap (λ (o : OpenOut). o.fh) (same_opened opened r e)
-
-pub bytes_are : (r t : List ℕ) → replies.Bytes r ≡ replies.Bytes t → t ≡ r
-bytes_are r t e = cc
-
-same_wrote : (r t : WriteOut) → replies.Wrote t ≡ replies.Wrote r → r ≡ t
-same_wrote r t e = cc
-
-pub wrote_is : (n m : ℕ) → SaysWrote n (replies.Wrote (record { size = m })) → n ≡ m
-wrote_is n m e = ap (λ (w : WriteOut). w.size) (same_wrote (record { size = n }) (record { size = m }) e)
 
 pub same_place : (i k : ℕ) (o : Option ℕ) → o ≡ Some i → o ≡ Some k → i ≡ k
 same_place i k o e h = cc

@@ -1,9 +1,5 @@
 pub mod Told
 pub mod Asking
 pub mod Opening
-pub mod Places
-pub mod Guests
-pub mod AllGuests
-pub mod Calling
 pub mod Playing
 pub mod Playable

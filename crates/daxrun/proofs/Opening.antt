@@ -24,7 +24,7 @@ use Rattle.fuse_device.proofs.OpenHandles.{opened_is_open}
 use Rattle.guest_wire.specs.declared.driver.FileRef.{FileRef}
 use Rattle.dax_script.specs.declared.scripts.FileLine.{FileLine}
 use Rattle.daxrun.specs.Session.{IsSession, IsThere, AreOpen, AreSmall, firsts_of}
-use Rattle.daxrun.proofs.Places.{none_is, some_is, within, at_end, in_map, map_at, map_len}
+use Rattle.guest_run.proofs.Places.{none_is, some_is, within, at_end, in_map, map_at, map_len}
 
 -- ---- names
 
@@ -36,8 +36,8 @@ new_named [] = refl
 new_named (n ∷ names) = ap (λ (xs : List (Option (List ℕ))). Some n ∷ xs) (new_named names)
 
 -- the device right after INIT
-pub session_begun : (names : List (List ℕ)) (s : State) → s ≡ begun (new_state 0 names) → IsSession names 0 s
-session_begun names s e = rw e record { started = refl; named = new_named names; opened = refl; next = omega arith }
+pub session_begun : (pages : ℕ) (names : List (List ℕ)) (s : State) → s ≡ begun (new_state pages names) → IsSession names 0 s
+session_begun pages names s e = rw e record { started = refl; named = new_named names; opened = refl; next = omega arith }
 
 -- of different names a later one is another
 later_differs : (names : List (List ℕ)) (i k : ℕ) (a b : List ℕ) → IsDistinct bytes_eq names → k < i → slice_get names k ≡ Some a → slice_get names i ≡ Some b → bytes_eq a b ≡ false
@@ -188,29 +188,15 @@ small_from (f ∷ fs) zero all = let e = size_of-new f in let h = all.0 in omega
 small_from (f ∷ fs) (suc i) all = small_from fs i all.1
 
 pub firsts_small : (fs : List FileLine) → AllByRecursion (λ (f : FileLine). f.first.size ≤ max_file) fs → AllByRecursion (λ (f : First). f.size ≤ max_file) (firsts_of fs)
-firsts_small fs all = each fs (max_files - length fs) all
-  where
-    zeros : (n : ℕ) → AllByRecursion (λ (f : First). f.size ≤ max_file) (replicate n (record { size = 0; fill = 0 }))
-    zeros zero = tt
-    zeros (suc n) = (omega arith, zeros n)
+firsts_small [] all = tt
+firsts_small (f ∷ fs) all = (all.0, firsts_small fs all.1)
 
-    each : (gs : List FileLine) (n : ℕ) → AllByRecursion (λ (f : FileLine). f.first.size ≤ max_file) gs → AllByRecursion (λ (f : First). f.size ≤ max_file) (map (λ g. g.first) gs ++ replicate n (record { size = 0; fill = 0 }))
-    each [] n h = zeros n
-    each (g ∷ gs) n h = (h.0, each gs n h.1)
+pub empty_small : (n : ℕ) → AllByRecursion (λ (f : First). f.size ≤ max_file) (replicate n (record { size = 0; fill = 0 }))
+empty_small zero = tt
+empty_small (suc n) = (omega arith, empty_small n)
 
-pub small_new : (fs : List FileLine) (v : BoardView) → v ≡ new_board 0 (firsts_of fs) → AllByRecursion (λ (f : FileLine). f.first.size ≤ max_file) fs → AreSmall v
-small_new fs v e all i = subst (λ (b : BoardView). size_of (file_at b i) ≤ max_file) (sym e) (small_from (firsts_of fs) i (firsts_small fs all))
-
-take_whole : (xs : List First) (n : ℕ) → length xs ≤ n → take n xs ≡ xs
-take_whole [] n l = grind (arith, common_steps)
-take_whole (x ∷ xs) zero l = absurd (omega arith)
-take_whole (x ∷ xs) (suc n) l = ap (λ (ys : List First). x ∷ ys) (take_whole xs n (omega arith))
-
--- the firsts of a script's files, filled up with empty ones
-pub filled_up : (fs : List FileLine) (xs : List First) → xs ≡ map (λ (f : FileLine). f.first) fs → length fs ≤ max_files → take max_files xs ++ replicate (max_files - length xs) (record { size = 0; fill = 0 }) ≡ firsts_of fs
-filled_up fs xs e few =
-    let len : length xs ≡ length fs = ap length e ∙ map_len (λ (f : FileLine). f.first) fs in
-    (λ i. take_whole xs max_files (omega arith) i ++ replicate (max_files - len i) (record { size = 0; fill = 0 })) ∙ ap (λ (ys : List First). ys ++ replicate (max_files - length fs) (record { size = 0; fill = 0 })) e
+pub small_new : (firsts : List First) (v : BoardView) → v ≡ new_board 0 firsts → AllByRecursion (λ (f : First). f.size ≤ max_file) firsts → AreSmall v
+small_new firsts v e all i = subst (λ (b : BoardView). size_of (file_at b i) ≤ max_file) (sym e) (small_from firsts i all)
 
 -- the file of a name was opened next
 pub open_next : (name : List ℕ) (ats : List FileRef) (i : ℕ) (s : State) (at : FileRef) → length ats ≡ i → IsThere name i s → AreOpen ats s → at ≡ record { node = i + 2; fh = s.next_fh } → AreOpen (ats ++ at ∷ []) (with_open (looked_up s i) (i + 2))

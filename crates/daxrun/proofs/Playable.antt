@@ -1,5 +1,6 @@
 -- A text that is a script keeps the limits of scripts.
 use Rattle.std.proofs.Common.{◌≡◌, ◌∙◌, ◌⊎◌, inl, inr, ⊎_elim, ap, sym, subst, refl, ℕ, zero, suc, ◌+◌, ◌<◌, ◌≤◌, ◌==◌, ◌&&◌, not, nat_lt, nat_le, Bool, true, false, true≢false, List, [], ◌∷◌, ◌++◌, length, codes, slice_get, length-append, ◌||◌, Option, Some, None, Result, Ok, Err, arith, if◌then◌else◌}
+use Rattle.std.specs.Prelude.{IfSome}
 use Rattle.std.proofs.lemmas.Grind.{common_steps}
 use Rattle.std.proofs.lemmas.List.Sums.{sum_by-cons, sum_by_push}
 use Rattle.std.specs.List.{AllByRecursion, IsDistinct, list_any, list_all, position_from, sum_by}
@@ -19,9 +20,10 @@ use Rattle.dax_script.specs.declared.whys.Why.TheVariants as whys
 use Rattle.dax_script.specs.Steps.{◌then◌, or_why, where_holds, none, one, two, three, four}
 use Rattle.dax_script.specs.ScriptWords.{number, between, moves, in_file, in_chunk, ranges_number, new_name, is_called, is_script_name, file_named, byte, hex, mode, hold_modes, hold, writing_hold}
 use Rattle.dax_script.specs.ScriptText.{read_call, write_call, fill_call, size_call, truncate_call, hold_call, load_call, store_call, release_call, call_of, Draft, start, guests_with, are_few, has_window, call_added, call_line, ranges_line, background_line, file_of, zeros_file, filled_file, file_of_words, file_line, guest_line, later_line, worded_line, worded, line_read, is_comment, BadLine, or_bad, finished, script_from, script_of}
-use Rattle.daxrun.specs.Carried as carried
-use Rattle.daxrun.specs.Carried.{names_of, is_carried_call, is_carried_out, IsCall, AreCalls, AreFiles, AreGuests, IsPlayable}
-use Rattle.daxrun.proofs.Places.{none_is, some_is, all_get, all_push}
+use Rattle.guest_run.specs.Working as working
+use Rattle.guest_run.specs.Working.{is_made_call, IsCall, AreCalls}
+use Rattle.guest_run.proofs.Places.{none_is, some_is, all_get, all_push}
+use Rattle.daxrun.specs.Carried.{names_of, is_carried_out, AreFiles, AreGuests, AreRanges, IsPlayable}
 
 -- ---- steps
 
@@ -110,7 +112,7 @@ hex_ok word bytes e =
 
 -- a call that is carried out is within the limits
 abbrev Within : ℕ → Call → Type 0
-Within files c = is_carried_call c ≡ true → IsCall files c
+Within files c = is_made_call c ≡ true → IsCall files c
 
 more_files : (n m : ℕ) (c : Call) → n ≤ m → IsCall n c → IsCall m c
 unfolding IsCall
@@ -166,11 +168,11 @@ size_within fs words c e =
     subst (IsCall (length fs)) (ok_is (calls.Size f.0) c f.2) (file_within fs w.0 f.0 f.1)
 
 -- another call isn't carried out
-other : (files : ℕ) (c d : Call) → is_carried_call d ≡ false → made {E = Why} d ≡ Ok c → Within files c
-other files c d isnt e holds = absurd (true≢false (sym holds ∙ (ap is_carried_call (sym (ok_is d c e)) ∙ isnt)))
+other : (files : ℕ) (c d : Call) → is_made_call d ≡ false → made {E = Why} d ≡ Ok c → Within files c
+other files c d isnt e holds = absurd (true≢false (sym holds ∙ (ap is_made_call (sym (ok_is d c e)) ∙ isnt)))
 
 truncate_other : (fs : List FileLine) (words : List (List ℕ)) (c : Call) → truncate_call fs words ≡ Ok c → Within (length fs) c
-unfolding truncate_call is_carried_call
+unfolding truncate_call is_made_call
 truncate_other fs words c e =
     let w = then_ok (two words) _ c e in
     let f = then_ok (file_named fs w.0.0) _ c w.2 in
@@ -178,7 +180,7 @@ truncate_other fs words c e =
     other (length fs) c (calls.Truncate f.0 n.0) refl n.2
 
 hold_other : (fs : List FileLine) (held : List Mode) (words : List (List ℕ)) (c : Call) → hold_call fs held words ≡ Ok c → Within (length fs) c
-unfolding hold_call is_carried_call
+unfolding hold_call is_made_call
 hold_other fs held words c e =
     let w = then_ok (three words) _ c e in
     let f = then_ok (file_named fs w.0.0) _ c w.2 in
@@ -188,7 +190,7 @@ hold_other fs held words c e =
     other (length fs) c (calls.Hold f.0 n.0 m.0) refl (ap Ok h.1)
 
 load_other : (files : ℕ) (held : List Mode) (words : List (List ℕ)) (c : Call) → load_call held words ≡ Ok c → Within files c
-unfolding load_call is_carried_call
+unfolding load_call is_made_call
 load_other files held words c e =
     let w = then_ok (three words) _ c e in
     let f = then_ok (hold held w.0.0) _ c w.2 in
@@ -198,7 +200,7 @@ load_other files held words c e =
     other files c (calls.Load f.0 a.0 n.0) refl a.2
 
 store_other : (files : ℕ) (held : List Mode) (words : List (List ℕ)) (c : Call) → store_call held words ≡ Ok c → Within files c
-unfolding store_call is_carried_call
+unfolding store_call is_made_call
 store_other files held words c e =
     let w = then_ok (three words) _ c e in
     let f = then_ok (writing_hold held w.0.0) _ c w.2 in
@@ -208,7 +210,7 @@ store_other files held words c e =
     other files c (calls.Store f.0 a.0 n.0) refl a.2
 
 release_other : (files : ℕ) (held : List Mode) (words : List (List ℕ)) (c : Call) → release_call held words ≡ Ok c → Within files c
-unfolding release_call is_carried_call
+unfolding release_call is_made_call
 release_other files held words c e =
     let w = then_ok (one words) _ c e in
     let f = then_ok (hold held w.0) _ c w.2 in
@@ -239,9 +241,10 @@ call_within fs held verb words c e =
 -- ---- what was read so far
 
 record Kept (d : Draft) : Type 0 where
+  ranges : IfSome d.ranges AreRanges
   files : AreFiles d.files
   guests : AllByRecursion (λ (cs : List Call). AllByRecursion (Within (length d.files)) cs) (guests_with d.done d.calls)
-  few : sum_by length (guests_with d.done d.calls) ≤ carried.max_calls
+  few : sum_by length (guests_with d.done d.calls) ≤ working.max_calls
 
 within_more : (n m : ℕ) (cs : List Call) → n ≤ m → AllByRecursion (Within n) cs → AllByRecursion (Within m) cs
 within_more n m [] le all = tt
@@ -332,6 +335,7 @@ file_kept d e words k is =
     let t = b.0 in
     let more : length d.files ≤ length (d.files ++ f ∷ []) = omega (arith, length-append d.files (f ∷ [])) in
     subst Kept b.1 (record {
+      ranges = k.ranges;
       files = files_push d.files f k.files new (grind (arith, common_steps));
       guests = all_more (length d.files) (length (d.files ++ f ∷ [])) (guests_with d.done d.calls) more k.guests;
       few = k.few;
@@ -346,17 +350,27 @@ guest_kept d e words k is =
     let n = sum_by_push length gs [] in
     let low = k.few in
     subst Kept b.1 (record {
+      ranges = k.ranges;
       files = k.files;
       guests = all_push (λ (cs : List Call). AllByRecursion (Within (length d.files)) cs) gs [] k.guests tt;
       few = omega arith;
     })
+
+ranges_ok : (word : List ℕ) (n : ℕ) → ranges_number word ≡ Ok n → AreRanges n
+unfolding ranges_number
+ranges_ok word n e =
+    let a = then_ok (number word) _ n e in
+    let b = holds_ok _ whys.Limit a.0 n a.2 in
+    let t = b.0 in
+    let same = b.1 in
+    record { most = grind (arith, common_steps); not_one = λ one. grind (arith, common_steps) }
 
 ranges_kept : (d e : Draft) (words : List (List ℕ)) → Kept d → ranges_line d words ≡ Ok e → Kept e
 unfolding ranges_line
 ranges_kept d e words k is =
     let a = then_ok (one words) _ e is in
     let b = then_ok (ranges_number a.0) _ e a.2 in
-    subst Kept (ok_is (record d { ranges = Some b.0 }) e b.2) (record { files = k.files; guests = k.guests; few = k.few })
+    subst Kept (ok_is (record d { ranges = Some b.0 }) e b.2) (record { ranges = ranges_ok a.0 b.0 b.1; files = k.files; guests = k.guests; few = k.few })
 
 background_kept : (d e : Draft) (ranges : ℕ) (words : List (List ℕ)) → Kept d → background_line d ranges words ≡ Ok e → Kept e
 unfolding background_line
@@ -364,9 +378,9 @@ background_kept d e ranges words k is =
     let a = then_ok (one words) _ e is in
     let b = then_ok (between 0 65536 a.0) _ e a.2 in
     let c = holds_ok (not (ranges == 0) || b.0 == 0) whys.Window (record d { background = Some b.0 }) e b.2 in
-    subst Kept c.1 (record { files = k.files; guests = k.guests; few = k.few })
+    subst Kept c.1 (record { ranges = k.ranges; files = k.files; guests = k.guests; few = k.few })
 
-few_of : (gs : List (List Call)) → are_few gs ≡ true → sum_by length gs ≤ carried.max_calls
+few_of : (gs : List (List Call)) → are_few gs ≡ true → sum_by length gs ≤ working.max_calls
 few_of gs e = grind (arith, common_steps)
 
 call_kept : (d e : Draft) (ranges : ℕ) (o : Option (List Call)) (verb : List ℕ) (words : List (List ℕ)) → d.calls ≡ o → Kept d → call_line d ranges o verb words ≡ Ok e → Kept e
@@ -382,6 +396,7 @@ call_kept d e ranges (Some cs) verb words at k is =
     let now = all_push (Within (length d.files)) cs c before.1 (call_within d.files (hold_modes cs) verb words c a.1) in
     let same : record d { calls = Some (cs ++ c ∷ []) } ≡ e = ap (λ (x : Call). record d { calls = Some (cs ++ x ∷ []) }) h.1 ∙ win.1 in
     subst Kept same (record {
+      ranges = k.ranges;
       files = k.files;
       guests = all_push (λ (xs : List Call). AllByRecursion (Within (length d.files)) xs) d.done (cs ++ c ∷ []) before.0 now;
       few = few_of (d.done ++ (cs ++ c ∷ []) ∷ []) h.0;
@@ -417,29 +432,30 @@ line_kept d e line k is = ⊎_elim (λ (h : Ok d ≡ Ok e). subst Kept (ok_is d 
 -- ---- the whole text
 
 record Limited (s : Script) : Type 0 where
+  ranges : AreRanges s.ranges
   files : AreFiles s.files
   guests : AllByRecursion (λ (cs : List Call). AllByRecursion (Within (length s.files)) cs) s.guests
-  few : sum_by length s.guests ≤ carried.max_calls
+  few : sum_by length s.guests ≤ working.max_calls
 
-finished_kept : (n : ℕ) (d : Draft) (o : Option ℕ) (s : Script) → Kept d → finished n d o ≡ Ok s → Limited s
+finished_kept : (n : ℕ) (d : Draft) (o : Option ℕ) (s : Script) → d.ranges ≡ o → Kept d → finished n d o ≡ Ok s → Limited s
 unfolding finished
-finished_kept n d None s k is = absurd (no_ok _ s is)
-finished_kept n d (Some ranges) s k is = subst Limited (ok_is _ s is) (record { files = k.files; guests = k.guests; few = k.few })
+finished_kept n d None s at k is = absurd (no_ok _ s is)
+finished_kept n d (Some ranges) s at k is = subst Limited (ok_is _ s is) (record { ranges = subst (λ (o : Option ℕ). IfSome o AreRanges) at k.ranges; files = k.files; guests = k.guests; few = k.few })
 
 bad_ok : {A B : Type 0} (n : ℕ) (r : Result A Why) (f : A → Result B BadLine) (y : B) → or_bad n r f ≡ Ok y → (x : A) × (r ≡ Ok x) × (f x ≡ Ok y)
 bad_ok n (Ok x) f y e = (x, refl, e)
 bad_ok n (Err why) f y e = absurd (no_ok _ y e)
 
 text_kept : (n : ℕ) (d : Draft) (ls : List (List ℕ)) (s : Script) → Kept d → script_from n d ls ≡ Ok s → Limited s
-text_kept n d [] s k is = finished_kept n d d.ranges s k is
-text_kept n d (l ∷ []) s k is = ⊎_elim (finished_kept n d d.ranges s k)
-    (λ h. let a = bad_ok n (line_read d l) _ s h in finished_kept (n + 1) a.0 a.0.ranges s (line_kept d a.0 l k a.1) a.2)
+text_kept n d [] s k is = finished_kept n d d.ranges s refl k is
+text_kept n d (l ∷ []) s k is = ⊎_elim (finished_kept n d d.ranges s refl k)
+    (λ h. let a = bad_ok n (line_read d l) _ s h in finished_kept (n + 1) a.0 a.0.ranges s refl (line_kept d a.0 l k a.1) a.2)
     (picked (length l == 0) _ _ s is)
 text_kept n d (l ∷ m ∷ ls) s k is = let a = bad_ok n (line_read d l) _ s is in text_kept (n + 1) a.0 (m ∷ ls) s (line_kept d a.0 l k a.1) a.2
 
 limited : (text : List ℕ) (s : Script) → script_of text ≡ Ok s → Limited s
 unfolding script_of IsDistinct
-limited text s is = text_kept 1 start (parts line_end text) s (record { files = record { few = omega arith; named = tt; different = tt; small = tt }; guests = tt; few = omega arith }) is
+limited text s is = text_kept 1 start (parts line_end text) s (record { ranges = tt; files = record { few = omega arith; named = tt; different = tt; small = tt }; guests = tt; few = omega arith }) is
 
 length_below : (gs : List (List Call)) (g : ℕ) (cs : List Call) → slice_get gs g ≡ Some cs → length cs ≤ sum_by length gs
 length_below [] g cs e = absurd (none_is cs e)
@@ -457,25 +473,24 @@ all_true p (y ∷ xs) (suc n) x all e = all_true p xs n x (both_true (p y) (list
 
 -- what a script that is carried out passed
 record Passed (s : Script) : Type 0 where
-  ranges : s.ranges ≡ 0
   one : length s.guests ≤ 1
-  calls : list_all (λ (cs : List Call). list_all is_carried_call cs) s.guests ≡ true
+  calls : list_all (λ (cs : List Call). list_all is_made_call cs) s.guests ≡ true
 
 passed : (s : Script) → is_carried_out s ≡ true → Passed s
 unfolding is_carried_out
-passed s h = record { ranges = grind (arith, common_steps); one = grind (arith, common_steps); calls = grind (arith, common_steps) }
+passed s h = record { one = grind (arith, common_steps); calls = grind (arith, common_steps) }
 
 pub playable : (text : List ℕ) (s : Script) → script_of text ≡ Ok s → is_carried_out s ≡ true → IsPlayable s
 playable text s reads carried =
     let k = limited text s reads in
     let p = passed s carried in
     record {
-      no_ranges = p.ranges;
+      ranges = k.ranges;
       files = k.files;
       guests = record {
         one = p.one;
         few = λ g cs at. let l = length_below s.guests g cs at in let f = k.few in omega arith;
         calls = λ g cs at n c at'. all_get (Within (length s.files)) cs n c (all_get (λ (xs : List Call). AllByRecursion (Within (length s.files)) xs) s.guests g cs k.guests at) at'
-            (all_true is_carried_call cs n c (all_true (λ (xs : List Call). list_all is_carried_call xs) s.guests g cs p.calls at) at');
+            (all_true is_made_call cs n c (all_true (λ (xs : List Call). list_all is_made_call xs) s.guests g cs p.calls at) at');
       };
     }

@@ -1,29 +1,51 @@
 -- From the run of the guest to the whole transcript.
-use Rattle.std.proofs.Common.{◌≡◌, ◌∙◌, ap, sym, subst, refl, ℕ, zero, suc, ◌+◌, ◌-◌, ◌<◌, ◌≤◌, List, [], ◌∷◌, ◌++◌, length, map, take, replicate, slice_get, slice_index_or, Some, arith, length-append}
-use Rattle.std.proofs.lemmas.List.{length-replicate}
+use Rattle.std.proofs.Common.{◌≡◌, ◌≢◌, ◌∙◌, ap, sym, subst, refl, ℕ, zero, suc, ◌+◌, ◌*◌, ◌<◌, ◌≤◌, ◌&&◌, Bool, true, false, true≢false, List, [], ◌∷◌, ◌++◌, length, map, take, replicate, get_or, slice_get, slice_index_or, Option, Some, None, arith, length-append}
+use Rattle.std.specs.Prelude.{sum}
+use Rattle.std.proofs.lemmas.List.{length-replicate, length-map}
 use Rattle.plain_file.specs.declared.operations.Entry.{Entry}
 use Rattle.plain_file.specs.declared.operations.First.{First}
 use Rattle.plain_file.specs.Limits.{max_files}
 use Rattle.plain_file.specs.Plain.{new_board, new_file}
 use Rattle.plain_file.specs.Board.{BoardView, no_file}
-use Rattle.page_map.specs.Board.{MapView}
-use Rattle.page_map.specs.Plain.{new_map}
+use Rattle.page_map.specs.declared.ranges.LogEntry.{LogEntry}
+use Rattle.page_map.specs.Board.{MapView, log_at}
+use Rattle.page_map.specs.Plain.{new_map, range_pages}
+use Rattle.page_map.specs.Logs.{Slot, sound, sound_from, next_slots}
+use Rattle.range_tree.specs.Plain.{new_ranges}
+use Rattle.range_tree.specs.Ranges.{range_count, max_pins, IsSoundRanges}
+use Rattle.range_tree.specs.Logs.{first_unsound, unsound_at}
 use Rattle.fuse_device.specs.State.{State, new_state}
+use Rattle.fuse_device.specs.OpenFiles.{HasOpenFile}
 use Rattle.fuse_device.specs.Promises.{IsServable, world}
 use Rattle.fuse_device.proofs.Servable.{servable_at_start}
+use Rattle.guest_wire.specs.Wires.{WireView, boards}
+use Rattle.guest_wire.specs.declared.driver.FileRef.{FileRef}
+use Rattle.guest_dax.specs.Stands.{Stand, stand, IsServing, Stands, ref_at, no_ref}
+use Rattle.guest_io.specs.Requests.{IsHome}
 use Rattle.dax_script.specs.declared.scripts.Call.{Call}
+use Rattle.dax_script.specs.declared.scripts.Call.TheVariants as calls
 use Rattle.dax_script.specs.declared.scripts.FileLine.{FileLine}
 use Rattle.dax_script.specs.declared.scripts.Script.{Script}
 use Rattle.transcript_text.specs.declared.transcripts.FilePart.{FilePart}
 use Rattle.transcript_text.specs.declared.transcripts.GuestPart.{GuestPart}
+use Rattle.transcript_text.specs.declared.transcripts.Numbered.{Numbered}
 use Rattle.transcript_text.specs.declared.transcripts.Transcript.{Transcript}
 use Rattle.dax_audit.specs.Legal.{IsLegal}
-use Rattle.daxrun.specs.Carried.{names_of, file_of, op_of, IsPlayable}
-use Rattle.daxrun.specs.Guest.{Asked, part_of, parts_from, IsRunFrom, IsPart}
-use Rattle.daxrun.specs.Session.{IsOwn, first_at, history_at, firsts_of}
-use Rattle.daxrun.proofs.Places.{none_is, some_is, within, map_len, take_more}
-use Rattle.daxrun.proofs.Calling.{call_in, asked_is}
-use Rattle.daxrun.proofs.AllGuests.{legal}
+use Rattle.guest_run.specs.Runs.{Asked, asked, part_of, parts_from, IsRunFrom, IsPart}
+use Rattle.guest_run.specs.Working.{IsIdle, IsAlone, IsCall, first_at, history_at}
+use Rattle.guest_run.proofs.Places.{none_is, some_is, within, found, map_len, take_more}
+use Rattle.guest_run.proofs.AllGuests.{legal}
+use Rattle.daxrun.specs.Carried.{names_of, AreRanges, IsPlayable}
+use Rattle.daxrun.specs.Requests.{IsLive}
+use Rattle.daxrun.specs.Session.{IsOpened, AreOpen, empty_firsts, firsts_of}
+
+-- ---- a session over empty files
+
+pub servable_new : (pages : ℕ) (fs : List FileLine) (s : State) (v : BoardView) (m : MapView) → s ≡ new_state pages (names_of fs) → v ≡ new_board 0 empty_firsts → m ≡ new_map pages → length fs ≤ max_files → IsServable (world s v m)
+servable_new pages fs s v m state files map few =
+    let names : length (names_of fs) ≤ 16 = omega (arith, map_len (λ (f : FileLine). f.name) fs) in
+    let enough : 16 ≤ length empty_firsts = omega (arith, length-replicate max_files (record { size = 0; fill = 0 })) in
+    rw (state, files, map) (servable_at_start 0 pages (names_of fs) empty_firsts names enough)
 
 -- ---- a board on which nothing was done
 
@@ -35,69 +57,150 @@ no_history (x ∷ fs) (suc f) = no_history fs f
 pub fresh_new : (fs : List FileLine) (v : BoardView) → v ≡ new_board 0 (firsts_of fs) → (f : ℕ) → history_at v f ≡ []
 fresh_new fs v e f = ap (λ (b : BoardView). history_at b f) e ∙ no_history (firsts_of fs) f
 
-abbrev none_first : First
-none_first = record { size = 0; fill = 0 }
-
-length_firsts : (fs : List FileLine) → length fs ≤ max_files → length (firsts_of fs) ≡ max_files
-length_firsts fs few = omega (arith, length-append (map (λ (f : FileLine). f.first) fs) (replicate (max_files - length fs) none_first), map_len (λ (f : FileLine). f.first) fs, length-replicate (max_files - length fs) none_first)
-
-pub own_new : (fs : List FileLine) (v : BoardView) → v ≡ new_board 0 (firsts_of fs) → length fs ≤ max_files → IsOwn v
-own_new fs v e few = subst IsOwn (sym e) (record { guest = refl; plain = refl; many = map_len new_file (firsts_of fs) ∙ length_firsts fs few })
-
-pub servable_new : (fs : List FileLine) (s : State) (v : BoardView) (m : MapView) → s ≡ new_state 0 (names_of fs) → v ≡ new_board 0 (firsts_of fs) → m ≡ new_map 0 → length fs ≤ max_files → IsServable (world s v m)
-servable_new fs s v m state files map few =
-    let names : length (names_of fs) ≤ 16 = omega (arith, map_len (λ (f : FileLine). f.name) fs) in
-    let enough : 16 ≤ length (firsts_of fs) = omega (arith, length_firsts fs few) in
-    rw (state, files, map) (servable_at_start 0 0 (names_of fs) (firsts_of fs) names enough)
-
-first_from : (fs : List FileLine) (rest : List First) (f : ℕ) (l : FileLine) → slice_get fs f ≡ Some l → (slice_index_or (map new_file (map (λ (x : FileLine). x.first) fs ++ rest)) f no_file).first ≡ l.first
-first_from [] rest f l e = absurd (none_is l e)
-first_from (x ∷ fs) rest zero l e = ap (λ (y : FileLine). y.first) (some_is x l e)
-first_from (x ∷ fs) rest (suc f) l e = first_from fs rest f l e
+first_from : (fs : List FileLine) (f : ℕ) (l : FileLine) → slice_get fs f ≡ Some l → (slice_index_or (map new_file (map (λ (x : FileLine). x.first) fs)) f no_file).first ≡ l.first
+first_from [] f l e = absurd (none_is l e)
+first_from (x ∷ fs) zero l e = ap (λ (y : FileLine). y.first) (some_is x l e)
+first_from (x ∷ fs) (suc f) l e = first_from fs f l e
 
 pub firsts_new : (fs : List FileLine) (v : BoardView) → v ≡ new_board 0 (firsts_of fs) → (f : ℕ) (l : FileLine) → slice_get fs f ≡ Some l → l.first ≡ first_at v f
-firsts_new fs v e f l at = sym (ap (λ (b : BoardView). first_at b f) e ∙ first_from fs (replicate (max_files - length fs) (record { size = 0; fill = 0 })) f l at)
+firsts_new fs v e f l at = sym (ap (λ (b : BoardView). first_at b f) e ∙ first_from fs f l at)
+
+ready_from : (fs : List First) (i : ℕ) → i < length (map new_file fs) → (slice_index_or (map new_file fs) i no_file).ready ≡ true
+ready_from [] i lt = absurd (omega arith)
+ready_from (x ∷ fs) zero lt = refl
+ready_from (x ∷ fs) (suc i) lt = ready_from fs i (omega arith)
+
+many_new : (fs : List FileLine) → length (new_board 0 (firsts_of fs)).files ≡ length fs
+many_new fs = map_len new_file (firsts_of fs) ∙ map_len (λ (f : FileLine). f.first) fs
+
+-- ---- a guest that did nothing
+
+no_sum : (n : ℕ) → sum (replicate n 0) ≡ 0
+no_sum zero = refl
+no_sum (suc n) = no_sum n
+
+ref_is : (ats : List FileRef) (i : ℕ) → i < length ats → slice_get ats i ≡ Some (ref_at ats i)
+ref_is [] i lt = absurd (omega arith)
+ref_is (a ∷ ats) zero lt = refl
+ref_is (a ∷ ats) (suc i) lt = ref_is ats i (omega arith)
+
+-- the guest of an opened session, with ranges of its own
+pub idle_new : (ranges : ℕ) (fs : List FileLine) (ats : List FileRef) (w : WireView) (files : BoardView) (map : MapView) (opened : BoardView) (pages : MapView) → AreRanges ranges → length ats ≡ length fs → IsOpened (names_of fs) ats w (boards opened pages) → pages ≡ new_map (range_pages * ranges)
+    → files ≡ new_board 0 (firsts_of fs) → map ≡ new_ranges ranges (length fs) 0 → IsIdle (stand w files map) ats
+idle_new ranges fs ats w files map opened pages some count o window board ranged =
+    let live = o.live in
+    let made : length w.state.made ≡ length fs = sym (map_len (λ f. f.name) w.state.made) ∙ ap length o.session.named ∙ map_len Some (names_of fs) ∙ map_len (λ (f : FileLine). f.name) fs in
+    let wide : length (new_ranges ranges (length fs) 0).table ≡ w.state.pages =
+        length-replicate (range_pages * ranges) (Some None)
+        ∙ sym (ap (λ (m : MapView). length m.table) window ∙ length-map (replicate (range_pages * ranges) None) (λ p. Some p) ∙ length-replicate (range_pages * ranges) None)
+        ∙ live.servable.pages in
+    let none = no_sum ranges in
+    let none' = no_sum (length fs) in
+    let many = many_new fs in
+    subst (λ (x : BoardView × MapView). IsIdle (stand w x.0 x.1) ats) (λ i. (sym board i, sym ranged i)) (record {
+      home = record {
+        stands = record {
+          refs_of = count ∙ sym many;
+          logs = length-replicate (length fs) [] ∙ sym many;
+          may_take = refl;
+          turn = refl;
+          serving = λ honest. record {
+            there = omega (arith, made, many);
+            pages = wide;
+            started = o.session.started;
+            ready = λ whole file lt. ready_from (firsts_of fs) file (omega (arith, made, many, lt));
+            nodes = λ file lt. (o.handles.each file (ref_at ats file) (ref_is ats file lt)).0;
+            handles = λ file lt.
+                let h = o.handles.each file (ref_at ats file) (ref_is ats file lt) in
+                subst (λ (n : ℕ). HasOpenFile w.state n (ref_at ats file).fh) h.0 h.1;
+          };
+        };
+        plain = λ honest whole. refl;
+      };
+      honest = live.honest;
+      tree = refl;
+      moves = refl;
+      few = omega (arith, none);
+      looks = ap (λ (n : ℕ). replicate n None) (sym (length-replicate ranges 0));
+      may_lease = refl;
+      unbarred = refl;
+      leases = omega (arith, none', leases_new fs);
+    })
+  where
+    leases_new : (gs : List FileLine) → sum (new_board 0 (firsts_of gs)).hands.leases ≡ 0
+    leases_new gs = no_sum (length (firsts_of gs))
+
+pub alone_new : (ranges files : ℕ) (map : MapView) → AreRanges ranges → map ≡ new_ranges ranges files 0 → IsAlone map
+alone_new ranges files map some e = subst IsAlone (sym e) (record {
+  alone = refl;
+  count = λ one. some.not_one (sym (length-replicate ranges 0) ∙ one);
+  unpinned = no_sum ranges;
+})
 
 -- ---- the guest's part
 
 -- a run from the end of empty histories on is one from their beginnings on
-pub run_whole : (first : ℕ → First) (v : BoardView) (h : ℕ → List Entry) (cs : List Call) (part : GuestPart) → ((f : ℕ) → history_at v f ≡ []) → part.guest ≡ 0 → IsRunFrom 0 first (λ f. length (history_at v f)) h cs part.lines → IsPart first h 0 cs part
-run_whole first v h cs part fresh number r = record {
+pub run_whole : (ranges : ℕ) (first : ℕ → First) (v : BoardView) (h : ℕ → List Entry) (logs : ℕ → List LogEntry) (cs : List Call) (part : GuestPart) → ((f : ℕ) → history_at v f ≡ []) → part.guest ≡ 0 → IsRunFrom 0 ranges first (λ f. length (history_at v f)) h logs cs part.lines → IsPart ranges first h logs 0 cs part
+run_whole ranges first v h logs cs part fresh number r = record {
   number = number;
-  run = record { count = r.count; done = r.done; only = λ f p e le at is. r.only f p e (let z = ap length (fresh f) in omega arith) at is; rising = r.rising };
+  run = record { count = r.count; told = r.told; only = λ f p e le at is. r.only f p e (let z = ap length (fresh f) in omega arith) at is; rising = r.rising };
 }
 
-pub one_part : (first : ℕ → First) (h : ℕ → List Entry) (gs : List (List Call)) (calls : List Call) (parts : List GuestPart) (part : GuestPart) → length gs ≤ 1 → slice_get gs 0 ≡ Some calls → parts ≡ part ∷ [] → IsPart first h 0 calls part
-    → (g : ℕ) (cs : List Call) (p : GuestPart) → slice_get gs g ≡ Some cs → slice_get parts g ≡ Some p → IsPart first h g cs p
-one_part first h gs calls parts part one there e is zero cs p at at' =
+pub one_part : (P : ℕ → List Call → GuestPart → Type 0) (gs : List (List Call)) (calls : List Call) (parts : List GuestPart) (part : GuestPart) → length gs ≤ 1 → slice_get gs 0 ≡ Some calls → parts ≡ part ∷ [] → P 0 calls part
+    → (g : ℕ) (cs : List Call) (p : GuestPart) → slice_get gs g ≡ Some cs → slice_get parts g ≡ Some p → P g cs p
+one_part P gs calls parts part one there e is zero cs p at at' =
     let c : calls ≡ cs = some_is calls cs (sym there ∙ at) in
     let q : part ≡ p = some_is part p (ap (λ (xs : List GuestPart). slice_get xs 0) (sym e) ∙ at') in
-    subst (λ (z : List Call × GuestPart). IsPart first h 0 z.0 z.1) (λ i. (c i, q i)) is
-one_part first h gs calls parts part one there e is (suc g) cs p at at' = let w = within gs (suc g) cs at in absurd (omega arith)
+    subst (λ (z : List Call × GuestPart). P 0 z.0 z.1) (λ i. (c i, q i)) is
+one_part P gs calls parts part one there e is (suc g) cs p at at' = let w = within gs (suc g) cs at in absurd (omega arith)
 
 -- ---- the files' parts
 
-pub parts_more : (h : ℕ → List Entry) (n : ℕ) (fs : List FileLine) (f : FileLine) → parts_from h n (fs ++ f ∷ []) ≡ parts_from h n fs ++ part_of h (n + length fs) f ∷ []
-parts_more h n [] f = let z : n ≡ n + 0 = omega arith in ap (λ (k : ℕ). part_of h k f ∷ []) z
-parts_more h n (x ∷ fs) f = let z : n + 1 + length fs ≡ n + suc (length fs) = omega arith in ap (λ (ps : List FilePart). part_of h n x ∷ ps) (parts_more h (n + 1) fs f ∙ ap (λ (k : ℕ). parts_from h (n + 1) fs ++ part_of h k f ∷ []) z)
+pub parts_more : (h : ℕ → List Entry) (logs : ℕ → List LogEntry) (n : ℕ) (fs : List FileLine) (f : FileLine) → parts_from h logs n (fs ++ f ∷ []) ≡ parts_from h logs n fs ++ part_of h logs (n + length fs) f ∷ []
+parts_more h logs n [] f = let z : n ≡ n + 0 = omega arith in ap (λ (k : ℕ). part_of h logs k f ∷ []) z
+parts_more h logs n (x ∷ fs) f = let z : n + 1 + length fs ≡ n + suc (length fs) = omega arith in ap (λ (ps : List FilePart). part_of h logs n x ∷ ps) (parts_more h logs (n + 1) fs f ∙ ap (λ (k : ℕ). parts_from h logs (n + 1) fs ++ part_of h logs k f ∷ []) z)
 
 -- ---- the whole transcript
 
-pub played_legal : (s : Script) (t : Transcript) (v w : BoardView) → IsPlayable s → t.ranges ≡ 0 → v ≡ new_board 0 (firsts_of s.files) → t.files ≡ parts_from (history_at w) 0 s.files → length t.guests ≡ length s.guests
-    → ((g : ℕ) (cs : List Call) (part : GuestPart) → slice_get s.guests g ≡ Some cs → slice_get t.guests g ≡ Some part → IsPart (first_at v) (history_at w) g cs part)
-    → ((f p : ℕ) (e : Entry) → slice_get (history_at w f) p ≡ Some e → e.guest < length s.guests) → IsLegal s t
-played_legal s t v w h ranges board files count guests known = legal (first_at v) (history_at w) s t (record {
-  no_ranges = h.no_ranges;
+both_true : (a b : Bool) → (a && b) ≡ true → (a ≡ true) × (b ≡ true)
+both_true true b h = (refl, h)
+both_true false b h = absurd (true≢false (sym h))
+
+none_unsound : (ranges n : ℕ) (slots : List Slot) (log : List LogEntry) → sound_from ranges n slots log ≡ true → first_unsound ranges n slots log ≡ None
+unfolding sound_from first_unsound
+none_unsound ranges n slots [] h = refl
+none_unsound ranges n slots (e ∷ es) h = let k = both_true _ _ h in rw k.0 (none_unsound ranges (n + 1) (next_slots n slots e) es k.1)
+
+-- a sound log is one without an unsound entry
+pub sound_log : (ranges : ℕ) (log : List LogEntry) → sound ranges log ≡ true → unsound_at ranges log ≡ None
+unfolding sound
+sound_log ranges log h = none_unsound ranges 0 [] log h
+
+-- what a call is on is a file of the script
+asked_within : (files : ℕ) (c : Call) (a : Asked) → IsCall files c → asked c ≡ Some a → a.file < files
+unfolding IsCall asked
+asked_within files (calls.Read file off len) a is e = subst (λ (k : ℕ). k < files) (ap (λ (x : Asked). x.file) (some_is _ a e)) is.0
+asked_within files (calls.Write file off xs) a is e = subst (λ (k : ℕ). k < files) (ap (λ (x : Asked). x.file) (some_is _ a e)) is.0
+asked_within files (calls.Fill file off len byte) a is e = subst (λ (k : ℕ). k < files) (ap (λ (x : Asked). x.file) (some_is _ a e)) is.0
+asked_within files (calls.Size file) a is e = subst (λ (k : ℕ). k < files) (ap (λ (x : Asked). x.file) (some_is _ a e)) is
+asked_within files (calls.Truncate file size) a is e = absurd is
+asked_within files (calls.Hold file chunk mode) a is e = absurd is
+asked_within files (calls.Load hold off len) a is e = absurd is
+asked_within files (calls.Store hold off xs) a is e = absurd is
+asked_within files (calls.Release hold) a is e = absurd is
+
+pub played_legal : (s : Script) (t : Transcript) (v w : BoardView) (map : MapView) → IsPlayable s → t.ranges ≡ s.ranges → v ≡ new_board 0 (firsts_of s.files) → t.files ≡ parts_from (history_at w) (log_at map) 0 s.files → length t.guests ≡ length s.guests
+    → ((g : ℕ) (cs : List Call) (part : GuestPart) → slice_get s.guests g ≡ Some cs → slice_get t.guests g ≡ Some part → IsPart s.ranges (first_at v) (history_at w) (log_at map) g cs part)
+    → ((f p : ℕ) (e : Entry) → slice_get (history_at w f) p ≡ Some e → e.guest < length s.guests) → ((f : ℕ) → f < length s.files → unsound_at s.ranges (log_at map f) ≡ None) → IsLegal s t
+played_legal s t v w map h ranges board files count guests known logs = legal (first_at v) (history_at w) (log_at map) s t (record {
   ranges = ranges;
   firsts = firsts_new s.files v board;
   files = files;
   count = count;
   guests = guests;
-  in_files = λ g n cs c a at at' asks.
-      let is = h.guests.calls g cs at n c at' in
-      let same : record { file = file_of c; op = op_of c } ≡ a = some_is (record { file = file_of c; op = op_of c }) a (sym (asked_is (length s.files) c is) ∙ asks) in
-      subst (λ (k : ℕ). k < length s.files) (ap (λ (x : Asked). x.file) same) (call_in (length s.files) c is);
+  in_files = λ g n cs c a at at' asks. asked_within (length s.files) c a (h.guests.calls g cs at n c at') asks;
   known = known;
+  sound = logs;
 })
 
 map_last : {A B : Type 0} (F : A → B) (xs : List A) (x : A) → map F (xs ++ x ∷ []) ≡ map F xs ++ F x ∷ []

@@ -1,5 +1,4 @@
 pub mod Carried
 pub mod Requests
 pub mod Session
-pub mod Guest
 pub mod Run

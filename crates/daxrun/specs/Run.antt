@@ -1,5 +1,5 @@
 -- What a run writes, and when it ends with which status.
-use Rattle.std.specs.Prelude.{◌≡◌, ℕ, ◌<◌, ◌≤◌, Bool, true, false, nat_lt, List, [], ◌∷◌, length, codes, Option, Some, None, is_none, Result, Ok, Err, if◌then◌else◌}
+use Rattle.std.specs.Prelude.{◌≡◌, ℕ, ◌<◌, ◌≤◌, Bool, true, false, nat_lt, List, [], ◌∷◌, length, codes, slice_get, Option, Some, None, is_none, Result, Ok, Err, if◌then◌else◌}
 use Rattle.std.specs.Fmt.{decimal}
 use Rattle.std.specs.Str.{bytes_eq}
 use Rattle.std.specs.Io.KnownBytes.{Appends, Keeps}
@@ -11,10 +11,12 @@ use Rattle.program_io.specs.declared.statuses.Status.TheVariants as statuses
 use Rattle.dax_script.specs.Whys.{why_word}
 use Rattle.program_io.specs.Causes.{AppendsPart}
 use Rattle.dax_script.specs.ScriptText.{BadLine, script_of}
+use Rattle.transcript_text.specs.declared.transcripts.GuestPart.{GuestPart}
 use Rattle.transcript_text.specs.declared.transcripts.Transcript.{Transcript}
 use Rattle.dax_audit.specs.Legal.{IsLegal}
 use Rattle.transcript_text.specs.TranscriptText.{text_of}
 use Rattle.transcript_text.specs.TranscriptReading.{transcript_of}
+use Rattle.guest_run.specs.Working.{AllDone}
 use Rattle.daxrun.specs.Carried.{is_carried_out}
 
 -- the most bytes that are read
@@ -50,10 +52,15 @@ refusal (Err bad) = Some (refused_line bad)
 
 -- ---- what is due
 
--- the text is that of a transcript which is legal for the script, and it is read as this transcript
+-- each line of each guest says that its call is done
+pub record AllLinesDone (t : Transcript) : Type 0 where
+  pub each : (g : ℕ) (part : GuestPart) → slice_get t.guests g ≡ Some part → AllDone part.lines
+
+-- The text is that of a transcript which is legal for the script, and it is read as this transcript. Each call of a guest that is alone is done.
 pub record IsTextOf (script : Script) (text : List ℕ) : Type 0 where
   pub transcript : Transcript
   pub legal : IsLegal script transcript
+  pub done : AllLinesDone transcript
   pub writes : text ≡ text_of transcript
   pub determined : transcript_of text ≡ Ok transcript
 

@@ -1,10 +1,8 @@
--- A guest's session: its files are found and opened, one after another.
-use Rattle.std.specs.Prelude.{◌≡◌, ℕ, ◌+◌, ◌-◌, ◌≤◌, true, List, ◌++◌, length, map, replicate, slice_get, Some}
-use Rattle.plain_file.specs.File.{max_file, answer}
-use Rattle.plain_file.specs.declared.operations.Entry.{Entry}
-use Rattle.plain_file.specs.declared.operations.Op.{Op}
+-- A session: its files are found and opened, one after another.
+use Rattle.std.specs.Prelude.{◌≡◌, ℕ, ◌+◌, ◌≤◌, true, List, length, map, replicate, slice_get, Some}
+use Rattle.plain_file.specs.File.{max_file}
 use Rattle.plain_file.specs.declared.operations.First.{First}
-use Rattle.plain_file.specs.Board.{BoardView, file_at, bytes_now, size_of}
+use Rattle.plain_file.specs.Board.{BoardView, file_at, size_of}
 use Rattle.plain_file.specs.Limits.{max_files}
 use Rattle.fuse_device.specs.State.{State, named, is_made}
 use Rattle.fuse_device.specs.Checks.{may_open}
@@ -12,8 +10,6 @@ use Rattle.fuse_device.specs.OpenFiles.{HasOpenFile}
 use Rattle.guest_wire.specs.declared.driver.FileRef.{FileRef}
 use Rattle.guest_wire.specs.Wires.{WireView, Boards}
 use Rattle.dax_script.specs.declared.scripts.FileLine.{FileLine}
-use Rattle.transcript_text.specs.declared.transcripts.Line.TheVariants as lines
-use Rattle.transcript_text.specs.declared.transcripts.Numbered.{Numbered}
 use Rattle.daxrun.specs.Requests.{IsLive}
 
 -- a session over files of these names, of which so many were opened
@@ -34,36 +30,20 @@ pub record IsThere (name : List ℕ) (file : ℕ) (s : State) : Type 0 where
 pub record AreOpen (ats : List FileRef) (s : State) : Type 0 where
   pub each : (i : ℕ) (at : FileRef) → slice_get ats i ≡ Some at → (at.node ≡ i + 2) × HasOpenFile s at.node at.fh
 
--- the files are open under these handles, and any request can be served
-pub record IsOpened (ats : List FileRef) (w : WireView) (b : Boards) : Type 0 where
+-- the files of these names are open under these handles, and any request can be served
+pub record IsOpened (names : List (List ℕ)) (ats : List FileRef) (w : WireView) (b : Boards) : Type 0 where
   pub live : IsLive w b
+  pub session : IsSession names (length names) w.state
   pub handles : AreOpen ats w.state
 
 -- no file is larger than a file may be
 abbrev pub AreSmall : BoardView → Type 0
 AreSmall v = (i : ℕ) → size_of (file_at v i) ≤ max_file
 
--- what the files of a run begin with: the script's, and empty ones up to as many as a directory has
+-- the empty files over which a session is opened, as many as a directory has at most
+abbrev pub empty_firsts : List First
+empty_firsts = replicate max_files (record { size = 0; fill = 0 })
+
+-- what the files of a run begin with
 abbrev pub firsts_of : List FileLine → List First
-firsts_of fs = map (λ f. f.first) fs ++ replicate (max_files - length fs) (record { size = 0; fill = 0 })
-
--- a board of guest 0 alone, of as many files as a directory has
-pub record IsOwn (v : BoardView) : Type 0 where
-  pub guest : v.guest ≡ 0
-  pub plain : v.plain ≡ true
-  pub many : length v.files ≡ max_files
-
--- what the board has of each file
-abbrev pub first_at : BoardView → ℕ → First
-first_at v f = (file_at v f).first
-
-abbrev pub history_at : BoardView → ℕ → List Entry
-history_at v f = (file_at v f).history
-
--- the line of a call that is done on a file next
-abbrev pub done_line : BoardView → ℕ → ℕ → Op → Numbered
-done_line v n f op = record { call = n; line = lines.Done (length (history_at v f)) (answer (bytes_now (file_at v f)) op) }
-
--- all entries are guest 0's
-abbrev pub AreOurs : BoardView → Type 0
-AreOurs v = (f p : ℕ) (e : Entry) → slice_get (history_at v f) p ≡ Some e → e.guest ≡ 0
+firsts_of fs = map (λ f. f.first) fs

@@ -1,16 +1,14 @@
-//! Runs a script of files and calls against a FUSE daemon that keeps its files in memory, and writes
-//! the transcript: each file's history and each call's reply.
+//! Runs a script of files, window ranges and calls against a FUSE daemon that keeps its files in memory, and
+//! writes the transcript: each file's history and placement log, and each call's reply.
 //!
-//! `main` makes the real source, sink and words, and calls `runs::run`, whose contract is the
-//! program's. A script is read by `dax_script`, played by `plays`, which opens the files by `sessions` and
-//! makes the calls by `calls`, all through the `requests` of the client, and the transcript is printed by
+//! `main` makes the real source, sink and words, and calls `runs::run`, whose contract is the program's. A
+//! script is read by `dax_script`, and played by `plays`: it opens the files by `sessions`, through the
+//! `requests` of a client, and a worker of `guest_run` makes the calls. The transcript is printed by
 //! `transcript_text`. The definitions stand in `specs/`: `Run` (what a run writes with which status),
-//! `Carried` (which scripts are carried out), `Guest` (what one guest did, and what all did together),
-//! `Session` (a guest's open files). What a script is, and when a transcript is legal for it, is said in
-//! `dax_script` and `dax_audit`.
+//! `Carried` (which scripts are carried out), `Session` (open files). What a script is, when a transcript is
+//! legal for it, and what a guest's run is, is said in `dax_script`, `dax_audit` and `guest_run`.
 #![tactic(auto)]
 
-mod calls;
 #[cfg(test)]
 mod play_tests;
 mod plays;

@@ -1,158 +1,171 @@
-ghost use Rattle.std.specs.Prelude.{◌≡◌, ℕ, ◌<◌, ◌≤◌, [], ◌∷◌, List, map, length, slice_get, Some, true, false, IfOk, OnOk};
+ghost use Rattle.std.specs.Prelude.{◌≡◌, ℕ, ◌*◌, ◌<◌, ◌≤◌, [], ◌∷◌, List, map, length, slice_get, Some, true, false, IfOk, OnOk};
 ghost use Rattle.std.specs.List.{AllByRecursion};
 ghost use Rattle.plain_file.specs.File.{max_file};
-ghost use Rattle.plain_file.specs.Limits.{max_files};
+ghost use Rattle.plain_file.specs.Plain.{new_board};
 ghost use Rattle.plain_file.specs.declared.operations.Entry.{Entry};
+ghost use Rattle.page_map.specs.Plain.{range_pages};
+ghost use Rattle.page_map.specs.Board.{MapView, log_at, known_files};
+ghost use Rattle.range_tree.specs.Plain.{new_ranges};
+ghost use Rattle.range_tree.specs.Ranges.{range_count};
 ghost use Rattle.fuse_device.specs.State.{new_state};
-ghost use Rattle.guest_wire.specs.Wires.{boards};
+ghost use Rattle.guest_dax.specs.Stands.{stand};
 ghost use Rattle.dax_script.specs.declared.scripts.Call.{Call};
 ghost use Rattle.dax_script.specs.ScriptWords.{is_script_name};
 ghost use Rattle.transcript_text.specs.declared.transcripts.GuestPart.{GuestPart};
 ghost use Rattle.dax_audit.specs.Legal.{IsLegal};
-ghost use Rattle.transcript_text.specs.TranscriptReading.{IsPrintable, IsPrintableEntry, IsPrintableFile, IsPrintableGuest, IsPrintableWay};
-ghost use Rattle.daxrun.specs.Carried.{names_of, AreFiles, AreCalls, AreGuests, IsPlayable, max_calls};
-ghost use Rattle.daxrun.specs.Guest.{IsPart, entry_line, file_part, parts_from};
-ghost use Rattle.daxrun.specs.Requests.{IsLive};
-ghost use Rattle.daxrun.specs.Session.{AreSmall, AreOurs, IsOwn, first_at, history_at};
+ghost use Rattle.transcript_text.specs.TranscriptReading.{IsPrintable, IsPrintableEntry, IsPrintableFile, IsPrintableGuest, IsPrintableLog, IsPrintableWay};
+ghost use Rattle.guest_io.specs.Going.{LeavesAll};
+ghost use Rattle.guest_run.specs.Runs.{IsPart, entry_line, file_part, parts_from};
+ghost use Rattle.guest_run.specs.Working.{IsIdle, IsAlone, AllDone, first_at, history_at};
+ghost use Rattle.daxrun.specs.Carried.{names_of, AreFiles, AreGuests, AreRanges, IsPlayable};
+ghost use Rattle.daxrun.specs.Run.{AllLinesDone};
+ghost use Rattle.daxrun.specs.Session.{firsts_of};
 
-use crate::calls::make_calls;
-use crate::sessions::{board_of, start_session};
+use crate::sessions::{board_of, end_session, opening_board, start_session};
+use daemon_core::Daemon;
+use dax_host::SoloWire;
 use dax_script::{Call, FileLine, Script};
-use guest_wire::{Driver, Wire};
-use page_map::PageMap;
+use guest_dax::Dax;
+use guest_io::Guest;
+use guest_run::worker;
+use guest_wire::{Driver, FileRef, Wire};
+use page_map::{LogEntry, PAGES_OF_RANGE, PageMap};
 use plain_file::{Entry, First, List, Memory, PlainFiles, Way};
+use range_tree::{PlainRanges, RangeBoard};
 use std::alloc::Global;
 use std::mem::forget;
 use std::sync::Wait;
 use transcript_text::{EntryLine, FilePart, GuestPart, Transcript};
 
-/// Plays a script that is carried out by a client over a wire to the whole daemon of the script's files,
-/// on which nothing was done, and tells what it did. The guest, where there is one, begins a session,
-/// opens the files, and makes its calls, all as requests of the client, in their order. Nothing is sent
-/// after the last call.
-pub fn play<R: Wait, W>(
+/// Plays a script that is carried out, against the daemon of its files and its window, on which nothing was
+/// done, and tells what was done. A session is opened over a virtqueue: an INIT, and a LOOKUP and an OPEN for
+/// each file. Then the guest, where there is one, makes its calls on ranges of its own. At last each handle is
+/// given back, and the session ends: a RELEASE for each file, and a DESTROY.
+pub fn play<R: Wait>(
     rt: &R,
     alloc: Global,
     script: &Script,
-    client: &mut Driver<W>,
+    daemon: &mut Daemon,
 ) -> Result<Transcript, Memory>
-where
-    W: Wire<PlainFiles, PageMap>,
     requires playable { IsPlayable script.now }
-    requires honest { (W.wire client.old.wire).honest ≡ true }
-    requires whole { (W.wire client.old.wire).stays ≡ false }
-    requires new { (W.wire client.old.wire).state ≡ new_state 0 (names_of script.now.files) }
+    requires new { daemon.old ≡ new_state (range_pages * script.now.ranges) (names_of script.now.files) }
     ensures legal { IfOk result (IsLegal script.now) }
+    ensures done { IfOk result AllLinesDone }
     ensures printable { IfOk result IsPrintable }
 {
     let lines = script.files.as_slice();
-    let mut files = board_of(alloc, lines)?;
-    let mut map = PageMap::new(alloc, 0)?;
-    let guests = script.guests.as_slice();
-    let guests = play_guests(rt, alloc, client, lines, guests, &mut files, &mut map)?;
-    let parts = file_parts(alloc, lines, &files)?;
-    forget(files);
+    let mut files = opening_board(alloc)?;
+    let mut map = PageMap::new(alloc, PAGES_OF_RANGE * script.ranges)?;
+    let mut client = Driver::new(SoloWire::new(alloc, daemon)?);
+    let opened = start_session(rt, alloc, &mut client, lines, &mut files, &mut map)?;
+    let mut guest = guest_of(alloc, lines, script.ranges, client, opened)?;
+    let guests = play_guests(rt, alloc, &mut guest, script.guests.as_slice())?;
+    let mut dax = guest.finish();
+    let handles = dax.refs.as_slice();
+    end_session(rt, alloc, &mut dax.driver, handles, &mut files, &mut map);
+    dax.ranges.sound_ranges();
+    let parts = file_parts(alloc, lines, &dax.files, &dax.ranges)?;
+    forget(dax);
     Ok(Transcript {
         version: 1,
-        ranges: 0,
+        ranges: script.ranges,
         files: parts,
         guests,
     })
 }
 
-// The first guest, where there is one.
-fn play_guests<R: Wait, W>(
+/// Guest 0 with these open files, and with ranges of which none was taken.
+pub fn guest_of<W>(
+    alloc: Global,
+    files: &[FileLine],
+    ranges: u32,
+    client: Driver<W>,
+    opened: Vec<FileRef>,
+) -> Result<Guest<W, PlainFiles, PlainRanges>, Memory>
+where
+    W: Drop,
+    requires files { AreFiles files.now }
+    requires ranges { AreRanges ranges }
+    ensures driver { IfOk result (λ g. g.dax.driver ≡ client) }
+    ensures files { IfOk result (λ g. g.dax.files ≡ new_board 0 (firsts_of files.now)) }
+    ensures ranges { IfOk result (λ g. g.dax.ranges ≡ new_ranges ranges (length files.now) 0) }
+    ensures refs { IfOk result (λ g. g.dax.refs ≡ opened.items) }
+{
+    let board = board_of(alloc, files)?;
+    let ranges = PlainRanges::new(alloc, ranges, files.len() as u32, 0)?;
+    let dax = Dax::new(client, board, ranges, List::from_vec(opened));
+    Ok(Guest::new(dax))
+}
+
+/// Makes the calls of the first guest, where there is one, and tells its lines.
+pub fn play_guests<R: Wait, W>(
     rt: &R,
     alloc: Global,
-    client: &mut Driver<W>,
-    named: &[FileLine],
+    guest: &mut Guest<W, PlainFiles, PlainRanges>,
     guests: &[List<Call>],
-    files: &mut PlainFiles,
-    map: &mut PageMap,
 ) -> Result<List<GuestPart>, Memory>
 where
-    W: Wire<PlainFiles, PageMap>,
-    requires live { IsLive (W.wire client.old.wire) (boards files.old map.old) }
-    requires new { (W.wire client.old.wire).state ≡ new_state 0 (names_of named.now) }
-    requires named { AreFiles named.now }
-    requires guests { AreGuests (length named.now) guests.now }
-    requires small { AreSmall files.old }
-    requires own { IsOwn files.old }
-    requires fresh { (f : ℕ) → history_at files.old f ≡ [] }
+    W: Wire<PlainFiles, PlainRanges>,
+    requires idle { IsIdle (stand (W.wire guest.old.dax.driver.wire) guest.old.dax.files guest.old.dax.ranges) guest.old.dax.refs }
+    requires guests { AreGuests (length guest.old.dax.refs) guests.now }
+    requires number { guest.old.dax.files.guest ≡ 0 }
+    requires fresh { (f : ℕ) → history_at guest.old.dax.files f ≡ [] }
+    ensures idle { IsIdle (stand (W.wire guest.new.dax.driver.wire) guest.new.dax.files guest.new.dax.ranges) guest.new.dax.refs }
+    ensures leaves { LeavesAll (stand (W.wire guest.old.dax.driver.wire) guest.old.dax.files guest.old.dax.ranges) (stand (W.wire guest.new.dax.driver.wire) guest.new.dax.files guest.new.dax.ranges) }
     ensures count { IfOk result (λ parts. length parts ≡ length guests.now) }
     ensures parts { IfOk result (λ parts. (g : ℕ) (cs : List Call) (part : GuestPart) → slice_get guests.now g ≡ Some cs → slice_get parts g ≡ Some part
-        → IsPart (first_at files.old) (history_at files.new) g cs part) }
+        → IsPart (range_count guest.old.dax.ranges) (first_at guest.old.dax.files) (history_at guest.new.dax.files) (log_at guest.new.dax.ranges) g cs part) }
+    ensures done { IsAlone guest.old.dax.ranges → IfOk result (λ parts. (g : ℕ) (part : GuestPart) → slice_get parts g ≡ Some part → AllDone part.lines) }
     ensures printable { IfOk result (AllByRecursion IsPrintableGuest) }
-    ensures known { OnOk result ((f p : ℕ) (e : Entry) → slice_get (history_at files.new f) p ≡ Some e → e.guest < length guests.now) }
-    ensures own { OnOk result (IsOwn files.new) }
+    ensures known { OnOk result ((f p : ℕ) (e : Entry) → slice_get (history_at guest.new.dax.files f) p ≡ Some e → e.guest < length guests.now) }
+    ensures refs { guest.new.dax.refs ≡ guest.old.dax.refs }
 {
     let mut parts = List::new(alloc);
     let [calls, ..] = guests else {
         return Ok(parts);
     };
-    let part = play_guest(rt, alloc, client, named, calls.as_slice(), files, map)?;
-    parts.push(part)?;
+    let lines = worker(rt, alloc, guest, calls.as_slice())?;
+    parts.push(GuestPart { guest: 0, lines })?;
     Ok(parts)
 }
 
-// Guest 0, from the beginning of its session on.
-fn play_guest<R: Wait, W>(
-    rt: &R,
-    alloc: Global,
-    client: &mut Driver<W>,
-    named: &[FileLine],
-    calls: &[Call],
-    files: &mut PlainFiles,
-    map: &mut PageMap,
-) -> Result<GuestPart, Memory>
-where
-    W: Wire<PlainFiles, PageMap>,
-    requires live { IsLive (W.wire client.old.wire) (boards files.old map.old) }
-    requires new { (W.wire client.old.wire).state ≡ new_state 0 (names_of named.now) }
-    requires named { AreFiles named.now }
-    requires few { length calls.now ≤ max_calls }
-    requires calls { AreCalls (length named.now) calls.now }
-    requires small { AreSmall files.old }
-    requires own { IsOwn files.old }
-    requires fresh { (f : ℕ) → history_at files.old f ≡ [] }
-    ensures part { IfOk result (IsPart (first_at files.old) (history_at files.new) 0 calls.now) }
-    ensures printable { IfOk result IsPrintableGuest }
-    ensures ours { OnOk result (AreOurs files.new) }
-    ensures own { OnOk result (IsOwn files.new) }
-{
-    let opened = start_session(rt, alloc, client, named, files, map)?;
-    let lines = make_calls(rt, alloc, client, opened.as_slice(), calls, files, map)?;
-    Ok(GuestPart { guest: 0, lines })
-}
-
-// What is told of the script's files: each with its history.
+// What is told of the script's files: each with its history and its placement log.
 fn file_parts(
     alloc: Global,
     lines: &[FileLine],
     files: &PlainFiles,
+    ranges: &PlainRanges,
 ) -> Result<List<FilePart>, Memory>
     requires files { AreFiles lines.now }
-    requires own { IsOwn files.now }
-    ensures value { IfOk result (λ parts. parts ≡ parts_from (history_at files.now) 0 lines.now) }
+    requires many { length files.now.files ≡ length lines.now }
+    requires known { known_files ranges.now ≡ length lines.now }
+    ensures value { IfOk result (λ parts. parts ≡ parts_from (history_at files.now) (log_at ranges.now) 0 lines.now) }
     ensures printable { IfOk result (AllByRecursion IsPrintableFile) }
 {
     let mut parts = List::new(alloc);
     let mut number = 0;
     for line in lines {
-        let part = file_part(alloc, line, files.history(number).as_slice())?;
+        let history = files.history(number).as_slice();
+        let part = file_part(alloc, line, history, ranges.log(number))?;
         parts.push(part)?;
         number += 1;
     }
     Ok(parts)
 }
 
-fn file_part(alloc: Global, line: &FileLine, history: &[Entry]) -> Result<FilePart, Memory>
+fn file_part(
+    alloc: Global,
+    line: &FileLine,
+    history: &[Entry],
+    log: &[LogEntry],
+) -> Result<FilePart, Memory>
     requires name { is_script_name line.now.name ≡ true }
     requires size { line.now.first.size ≤ max_file }
-    ensures value { IfOk result (λ part. part ≡ file_part history.now line.now) }
+    ensures value { IfOk result (λ part. part ≡ file_part history.now log.now line.now) }
     ensures printable { IfOk result IsPrintableFile }
 {
     let entries = entry_lines(alloc, history)?;
+    let log = log_copy(alloc, log)?;
     let name = line.name.clone()?;
     let first = line.first;
     sound_first(first);
@@ -160,7 +173,7 @@ fn file_part(alloc: Global, line: &FileLine, history: &[Entry]) -> Result<FilePa
         name,
         first,
         entries,
-        log: List::new(alloc),
+        log,
     })
 }
 
@@ -184,7 +197,35 @@ fn entry_line(guest: u32, call: u32, way: Way) -> EntryLine
     EntryLine { guest, call, way }
 }
 
+fn log_copy(alloc: Global, log: &[LogEntry]) -> Result<List<LogEntry>, Memory>
+    ensures value { IfOk result (λ es. es ≡ log.now) }
+    ensures printable { IfOk result (AllByRecursion IsPrintableLog) }
+{
+    let mut copy = List::from_vec(Vec::with_capacity(alloc, log.len())?);
+    for entry in log {
+        sound_log(*entry);
+        copy.push(*entry)?;
+    }
+    Ok(copy)
+}
+
 // Does nothing. That is how a proof knows that its numbers are within their fields.
+#[tactic(auto, unfolding(transcript_text::specs::TranscriptReading::IsPrintableLog))]
+fn sound_log(entry: LogEntry)
+    ensures { IsPrintableLog entry }
+{
+    match entry {
+        LogEntry::Place {
+            chunk: _chunk,
+            range: _range,
+            ..
+        } => {}
+        LogEntry::Upgrade { range: _range } => {}
+        LogEntry::Remove { range: _range } => {}
+    }
+}
+
+// Does nothing, likewise.
 #[tactic(auto, unfolding(transcript_text::specs::TranscriptReading::IsPrintableWay))]
 fn sound(way: Way)
     ensures { IsPrintableWay way }

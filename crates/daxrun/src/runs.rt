@@ -9,14 +9,13 @@ ghost use Rattle.dax_script.specs.declared.scripts.Script.{Script};
 ghost use Rattle.dax_script.specs.ScriptText.{BadLine, script_of};
 ghost use Rattle.dax_audit.specs.Legal.{IsLegal};
 ghost use Rattle.transcript_text.specs.TranscriptReading.{IsPrintable, transcript_of};
-ghost use Rattle.daxrun.specs.Carried.{is_carried_out, is_carried_call, IsPlayable};
-ghost use Rattle.daxrun.specs.Run.{limit, is_script_command, usage_line, refused_line, too_long_line, refusal, IsTextOf, IsAnswerTo, IsDue, due_status, Answers};
+ghost use Rattle.guest_run.specs.Working.{is_made_call};
+ghost use Rattle.daxrun.specs.Carried.{is_carried_out, IsPlayable};
+ghost use Rattle.daxrun.specs.Run.{limit, is_script_command, usage_line, refused_line, too_long_line, refusal, AllLinesDone, IsTextOf, IsAnswerTo, IsDue, due_status, Answers};
 
 use crate::plays::play;
 use crate::sessions::daemon_of;
-use dax_host::SoloWire;
 use dax_script::{BadScript, Call, Script, Why, parse};
-use guest_wire::Driver;
 use plain_file::{Blob, List, Memory};
 use plain_text::{put, put_number};
 use program_io::{ReadError, Sink, Source, Status, Word, read_all, write_all};
@@ -138,13 +137,13 @@ fn answer_to<R: Wait>(rt: &R, alloc: Global, input: &[u8]) -> Result<(Status, Bl
     }
 }
 
-// Whether a script is carried out: without a window, with at most one guest, whose calls read, write or ask
-// for the size.
+// Whether a script is carried out: with at most one guest, whose calls read, write or ask for the size, and
+// without turns of a background.
 #[tactic(auto, unfolding(crate::specs::Carried::is_carried_out))]
 pub(crate) fn is_carried_out(script: &Script) -> bool
     ensures { result ≡ is_carried_out script.now }
 {
-    if script.ranges != 0 || script.background != 0 {
+    if script.background != 0 {
         return false;
     }
     match script.guests.as_slice() {
@@ -155,14 +154,14 @@ pub(crate) fn is_carried_out(script: &Script) -> bool
 }
 
 fn are_carried_calls(calls: &[Call]) -> bool
-    ensures { result ≡ list_all is_carried_call calls.now }
+    ensures { result ≡ list_all is_made_call calls.now }
 {
-    calls.iter().all(|call| is_carried_call(call))
+    calls.iter().all(|call| is_made_call(call))
 }
 
-#[tactic(auto, unfolding(crate::specs::Carried::is_carried_call))]
-fn is_carried_call(call: &Call) -> bool
-    ensures { result ≡ is_carried_call call.now }
+#[tactic(auto, unfolding(guest_run::specs::Working::is_made_call))]
+fn is_made_call(call: &Call) -> bool
+    ensures { result ≡ is_made_call call.now }
 {
     match call {
         Call::Read { .. } | Call::Write { .. } | Call::Fill { .. } | Call::Size { .. } => true,
@@ -199,14 +198,13 @@ fn transcribe<R: Wait>(rt: &R, alloc: Global, script: &Script) -> Result<Blob, M
     Ok(text)
 }
 
-// Plays a script by requests that go through a virtqueue to the daemon of its files.
+// Plays a script against the daemon of its files and its window.
 fn play_script<R: Wait>(rt: &R, alloc: Global, script: &Script) -> Result<Transcript, Memory>
     requires { IsPlayable script.now }
     ensures legal { IfOk result (IsLegal script.now) }
+    ensures done { IfOk result AllLinesDone }
     ensures printable { IfOk result IsPrintable }
 {
     let mut daemon = daemon_of(alloc, script)?;
-    let mut client = Driver::new(SoloWire::new(alloc, &mut daemon)?);
-    let transcript = play(rt, alloc, script, &mut client)?;
-    Ok(transcript)
+    play(rt, alloc, script, &mut daemon)
 }

@@ -1,31 +1,33 @@
-ghost use Rattle.std.specs.Prelude.{◌≡◌, ◌≤◌, ◌+◌, ◌<◌, true, false, ℕ, length, Some, IfOk, OnOk};
+ghost use Rattle.std.specs.Prelude.{◌≡◌, ◌≤◌, ◌+◌, ◌*◌, ◌<◌, true, false, ℕ, length, map, Some, IfOk, OnOk};
 ghost use Rattle.std.specs.List.{AllByRecursion, IsDistinct};
 ghost use Rattle.std.specs.Str.{bytes_eq};
 ghost use Rattle.plain_file.specs.File.{max_file};
 ghost use Rattle.plain_file.specs.Limits.{max_files};
 ghost use Rattle.plain_file.specs.Plain.{new_board};
+ghost use Rattle.page_map.specs.Plain.{range_pages};
 ghost use Rattle.fuse_device.specs.State.{new_state, looked_up, with_open};
 ghost use Rattle.guest_wire.specs.Wires.{boards};
-ghost use Rattle.daxrun.specs.Carried.{names_of, AreFiles};
+ghost use Rattle.daxrun.specs.Carried.{names_of, AreFiles, AreRanges};
 ghost use Rattle.daxrun.specs.Requests.{IsLive};
-ghost use Rattle.daxrun.specs.Session.{IsSession, IsThere, AreOpen, IsOpened, AreSmall, firsts_of};
+ghost use Rattle.daxrun.specs.Session.{IsSession, IsThere, AreOpen, IsOpened, AreSmall, empty_firsts, firsts_of};
 
 use crate::requests::{begin, look_up, open_file};
 use daemon_core::Daemon;
 use dax_script::{FileLine, Script};
 use guest_wire::{Driver, FileRef, Wire};
-use page_map::PageMap;
+use page_map::{MapBoard, PAGES_OF_RANGE, PageMap};
 use plain_file::{First, List, MAX_FILES, Memory, Name, PlainFiles};
 use std::alloc::Global;
 use std::sync::Wait;
 
-/// The daemon of a script's files, without a window, on which nothing was done.
+/// The daemon of a script's files and of a window of its ranges, on which nothing was done.
 pub fn daemon_of(alloc: Global, script: &Script) -> Result<Daemon, Memory>
-    requires { AreFiles script.now.files }
-    ensures { IfOk result (λ d. d ≡ new_state 0 (names_of script.now.files)) }
+    requires files { AreFiles script.now.files }
+    requires ranges { AreRanges script.now.ranges }
+    ensures { IfOk result (λ d. d ≡ new_state (range_pages * script.now.ranges) (names_of script.now.files)) }
 {
     let names = names_of(alloc, script.files.as_slice())?;
-    Daemon::new(alloc, 0, &names)
+    Daemon::new(alloc, PAGES_OF_RANGE * script.ranges, &names)
 }
 
 fn names_of(alloc: Global, files: &[FileLine]) -> Result<List<Name>, Memory>
@@ -38,8 +40,16 @@ fn names_of(alloc: Global, files: &[FileLine]) -> Result<List<Name>, Memory>
     Ok(names)
 }
 
-/// Guest 0's board of files, as many as a daemon can have: the script's with their first contents, and
-/// empty ones behind them.
+/// A board over which a session is opened and closed: as many empty files as a daemon can have. Of what the
+/// client is told of a file then it keeps the node and the handle alone.
+pub fn opening_board(alloc: Global) -> Result<PlainFiles, Memory>
+    ensures { IfOk result (λ b. b ≡ new_board 0 empty_firsts) }
+{
+    let firsts = vec![in alloc; First { size: 0, fill: 0 }; MAX_FILES as usize]?;
+    PlainFiles::new(alloc, 0, &List::from_vec(firsts))
+}
+
+/// Guest 0's board of a script's files with their first contents.
 pub fn board_of(alloc: Global, files: &[FileLine]) -> Result<PlainFiles, Memory>
     requires few { length files.now ≤ max_files }
     requires small { AllByRecursion (λ f. f.first.size ≤ max_file) files.now }
@@ -50,19 +60,17 @@ pub fn board_of(alloc: Global, files: &[FileLine]) -> Result<PlainFiles, Memory>
 }
 
 fn firsts_of(alloc: Global, files: &[FileLine]) -> Result<List<First>, Memory>
-    requires { length files.now ≤ max_files }
     ensures { IfOk result (λ firsts. firsts ≡ firsts_of files.now) }
 {
     let mut firsts = Vec::new(alloc);
     for file in files {
         firsts.push(file.first)?;
     }
-    firsts.resize(MAX_FILES as usize, First { size: 0, fill: 0 })?;
     Ok(List::from_vec(firsts))
 }
 
-/// Begins a session and opens the files in their order: an INIT, then a LOOKUP and an OPEN for each. The
-/// answer has a handle for each file.
+/// Begins a session and opens the files in their order: an INIT, then a LOOKUP and an OPEN for each. Where the
+/// window has pages, the INIT asks for direct access. The answer has a handle for each file.
 pub fn start_session<R: Wait, W>(
     rt: &R,
     alloc: Global,
@@ -74,15 +82,17 @@ pub fn start_session<R: Wait, W>(
 where
     W: Wire<PlainFiles, PageMap>,
     requires live { IsLive (W.wire client.old.wire) (boards files.old map.old) }
-    requires new { (W.wire client.old.wire).state ≡ new_state 0 (names_of named.now) }
+    requires new { (W.wire client.old.wire).state ≡ new_state (length map.old.table) (names_of named.now) }
     requires few { length named.now ≤ max_files }
     requires different { IsDistinct bytes_eq (names_of named.now) }
     requires small { AreSmall files.old }
     ensures count { IfOk result (λ ats. length ats.items ≡ length named.now) }
-    ensures opened { IfOk result (λ ats. IsOpened ats.items (W.wire client.new.wire) (boards files.new map.new)) }
+    ensures opened { IfOk result (λ ats. IsOpened (names_of named.now) ats.items (W.wire client.new.wire) (boards files.new map.new)) }
     ensures files { OnOk result (files.new ≡ files.old) }
+    ensures map { OnOk result (map.new ≡ map.old) }
 {
-    begin(rt, alloc, client, files, map)?;
+    let ask_map = map.pages() > 0;
+    begin(rt, alloc, client, ask_map, files, map)?;
     let opened = open_files(rt, alloc, client, named, files, map)?;
     Ok(opened)
 }
@@ -103,8 +113,9 @@ where
     requires different { IsDistinct bytes_eq (names_of named.now) }
     requires small { AreSmall files.old }
     ensures count { IfOk result (λ ats. length ats.items ≡ length named.now) }
-    ensures opened { IfOk result (λ ats. IsOpened ats.items (W.wire client.new.wire) (boards files.new map.new)) }
+    ensures opened { IfOk result (λ ats. IsOpened (names_of named.now) ats.items (W.wire client.new.wire) (boards files.new map.new)) }
     ensures files { OnOk result (files.new ≡ files.old) }
+    ensures map { OnOk result (map.new ≡ map.old) }
 {
     let mut opened = Vec::new(alloc);
     for file in named {
@@ -134,8 +145,44 @@ where
     ensures state { OnOk result ((file : ℕ) → IsThere name.now file (W.wire client.old.wire).state
         → (W.wire client.new.wire).state ≡ with_open (looked_up (W.wire client.old.wire).state file) (file + 2)) }
     ensures files { OnOk result (files.new ≡ files.old) }
+    ensures map { OnOk result (map.new ≡ map.old) }
 {
     let node = look_up(rt, alloc, client, name, files, map)?;
     let fh = open_file(rt, alloc, client, node, files, map)?;
     Ok(FileRef { node, fh })
+}
+
+/// Ends a session: a RELEASE for each open file, then a DESTROY. Whatever these are answered, the client is done
+/// with them.
+pub fn end_session<R: Wait, W>(
+    rt: &R,
+    alloc: Global,
+    client: &mut Driver<W>,
+    opened: &[FileRef],
+    files: &mut PlainFiles,
+    map: &mut PageMap,
+) where
+    W: Wire<PlainFiles, PageMap>,
+    requires live { IsLive (W.wire client.old.wire) (boards files.old map.old) }
+{
+    for at in opened {
+        close_file(rt, alloc, client, *at, files, map);
+    }
+    let _answer = client.destroy(rt, alloc, files, map);
+}
+
+// Gives back a handle: RELEASE.
+fn close_file<R: Wait, W>(
+    rt: &R,
+    alloc: Global,
+    client: &mut Driver<W>,
+    at: FileRef,
+    files: &mut PlainFiles,
+    map: &mut PageMap,
+) where
+    W: Wire<PlainFiles, PageMap>,
+    requires live { IsLive (W.wire client.old.wire) (boards files.old map.old) }
+    ensures live { IsLive (W.wire client.new.wire) (boards files.new map.new) }
+{
+    let _answer = client.release(rt, alloc, at, files, map);
 }

@@ -22,7 +22,7 @@ use Rattle.guest_io.specs.Ways.{IsReadWay, IsWriteWay}
 
 -- ---- what every call leaves
 
--- A board of files stays what it is, and has the same in hand.
+-- A board of files stays what it is, and has the same in hand. Its files have the same first contents.
 pub record StaysBoard (old new : BoardView) : Type 0 where
   pub guest : new.guest ≡ old.guest
   pub plain : new.plain ≡ old.plain
@@ -31,6 +31,7 @@ pub record StaysBoard (old new : BoardView) : Type 0 where
   pub others : new.others ≡ old.others
   pub hands : new.hands ≡ old.hands
   pub count : length new.files ≡ length old.files
+  pub firsts : (file : ℕ) → (file_at new file).first ≡ (file_at old file).first
 
 -- Whatever a call answers: the wire and both boards stay what they are, what was seen of logs has only grown, and nothing more is pinned, moved, leased, barred or had than before.
 pub record LeavesAll (old new : Stand) : Type 0 where

@@ -156,8 +156,3 @@ is_done_line (lines.Past end) = false
 -- each line of a list does
 abbrev pub AllDone : List Numbered → Type 0
 AllDone ls = (n : ℕ) (l : Numbered) → slice_get ls n ≡ Some l → is_done_line l.line ≡ true
-
--- what a worker leaves: the boards stay what they are, and have the same in hand; files have the same first contents
-pub record HasWorked (old new : Stand) : Type 0 where
-  pub leaves : LeavesAll old new
-  pub firsts : (f : ℕ) → first_at new.files f ≡ first_at old.files f

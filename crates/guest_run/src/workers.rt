@@ -7,7 +7,7 @@ ghost use Rattle.guest_dax.specs.Stands.{stand};
 ghost use Rattle.guest_run.specs.Runs.{IsRunFrom};
 ghost use Rattle.guest_io.specs.Requests.{IsHome};
 ghost use Rattle.guest_io.specs.Going.{LeavesAll};
-ghost use Rattle.guest_run.specs.Working.{IsIdle, IsAlone, IsCall, AreCalls, max_calls, first_at, history_at, Comes, Tells, AllDone, HasWorked};
+ghost use Rattle.guest_run.specs.Working.{IsIdle, IsAlone, IsCall, AreCalls, max_calls, first_at, history_at, Comes, Tells, AllDone};
 
 use crate::lines::line_of;
 use dax_script::Call;
@@ -37,7 +37,7 @@ where
     requires few { length calls.now ≤ max_calls }
     requires calls { AreCalls (length guest.old.dax.refs) calls.now }
     ensures idle { IsIdle (stand (W.wire guest.new.dax.driver.wire) (F.board guest.new.dax.files) (R.map guest.new.dax.ranges)) guest.new.dax.refs }
-    ensures worked { HasWorked (stand (W.wire guest.old.dax.driver.wire) (F.board guest.old.dax.files) (R.map guest.old.dax.ranges)) (stand (W.wire guest.new.dax.driver.wire) (F.board guest.new.dax.files) (R.map guest.new.dax.ranges)) }
+    ensures leaves { LeavesAll (stand (W.wire guest.old.dax.driver.wire) (F.board guest.old.dax.files) (R.map guest.old.dax.ranges)) (stand (W.wire guest.new.dax.driver.wire) (F.board guest.new.dax.files) (R.map guest.new.dax.ranges)) }
     ensures run { IfOk result (IsRunFrom (F.board guest.old.dax.files).guest (range_count (R.map guest.old.dax.ranges)) (first_at (F.board guest.old.dax.files)) (λ f. length (history_at (F.board guest.old.dax.files) f)) (history_at (F.board guest.new.dax.files)) (log_at (R.map guest.new.dax.ranges)) calls.now) }
     ensures done { IsAlone (R.map guest.old.dax.ranges) → IfOk result AllDone }
     ensures printable { IfOk result (AllByRecursion IsPrintableNumbered) }

@@ -5,7 +5,7 @@ use Rattle.transcript_text.specs.declared.transcripts.FilePart.{FilePart}
 use Rattle.transcript_text.specs.TranscriptReading.{IsPrintableFile}
 use Rattle.daxrun.specs.Guest.{file_part, parts_from}
 use Rattle.daxrun.specs.Session.{history_at}
-use Rattle.daxrun.proofs.Places.{at_index, take_more, take_count, all_push}
+use Rattle.guest_run.proofs.Places.{at_index, take_more, take_count, all_push}
 use Rattle.daxrun.proofs.Playing.{parts_more}
 use Rattle.daxrun.proofs.plays.file_parts.Goals as goal
 

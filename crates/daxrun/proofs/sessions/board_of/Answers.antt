@@ -2,7 +2,7 @@ use Rattle.std.proofs.Common.{sym, subst, ◌<◌, ◌≤◌, List, length, get_
 use Rattle.plain_file.specs.declared.operations.First.{First}
 use Rattle.plain_file.specs.File.{max_file}
 use Rattle.daxrun.specs.Session.{firsts_of}
-use Rattle.daxrun.proofs.Places.{all_at}
+use Rattle.guest_run.proofs.Places.{all_at}
 use Rattle.daxrun.proofs.Opening.{firsts_small}
 use Rattle.daxrun.proofs.sessions.board_of.Goals as goal
 

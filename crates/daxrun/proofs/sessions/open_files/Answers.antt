@@ -4,7 +4,7 @@ use Rattle.guest_wire.specs.declared.driver.FileRef.{FileRef}
 use Rattle.dax_script.specs.declared.scripts.FileLine.{FileLine}
 use Rattle.daxrun.specs.Carried.{names_of}
 use Rattle.daxrun.specs.Session.{IsSession, AreOpen}
-use Rattle.daxrun.proofs.Places.{at_index, map_at}
+use Rattle.guest_run.proofs.Places.{at_index, map_at}
 use Rattle.daxrun.proofs.Opening.{is_there, session_more, open_next}
 use Rattle.daxrun.proofs.sessions.open_files.Goals as goal
 
