@@ -91,9 +91,9 @@ idle_new ranges fs ats w files map opened pages some count o window board ranged
     let live = o.live in
     let made : length w.state.made ≡ length fs = sym (map_len (λ f. f.name) w.state.made) ∙ ap length o.session.named ∙ map_len Some (names_of fs) ∙ map_len (λ (f : FileLine). f.name) fs in
     let wide : length (new_ranges ranges (length fs) 0).table ≡ w.state.pages =
-        length-replicate (range_pages * ranges) (Some None)
-        ∙ sym (ap (λ (m : MapView). length m.table) window ∙ length-map (replicate (range_pages * ranges) None) (λ p. Some p) ∙ length-replicate (range_pages * ranges) None)
-        ∙ live.servable.pages in
+    length-replicate (range_pages * ranges) (Some None)
+    ∙ sym (ap (λ (m : MapView). length m.table) window ∙ length-map (replicate (range_pages * ranges) None) (λ p. Some p) ∙ length-replicate (range_pages * ranges) None)
+    ∙ live.servable.pages in
     let none = no_sum ranges in
     let none' = no_sum (length fs) in
     let many = many_new fs in

@@ -1,18 +1,18 @@
 ghost use Rattle.std.specs.Prelude.{◌≡◌, true, false, IfSome};
-ghost use Rattle.fuse_device.specs.State.{new_state};
-ghost use Rattle.daxrun.specs.Carried.{names_of, IsPlayable};
+ghost use Rattle.daxrun.specs.Carried.{IsPlayable};
 
-use crate::plays::play;
-use crate::run_tests::FOUR;
+use crate::plays::{guest_of, play_guests};
+use crate::run_tests::{FOUR, RECLAIM, UPGRADE};
 use crate::runs::is_carried_out;
-use crate::sessions::daemon_of;
+use crate::sessions::{daemon_of, end_session, opening_board, start_session};
 use dax_host::SoloWire;
 use dax_script::{Script, parse};
 use fuse_wire::InHeader;
-use guest_wire::{Driver, KeepWire, Wire};
-use page_map::PageMap;
-use plain_file::{Blob, List, Memory, PlainFiles};
+use guest_wire::{Driver, KeepWire};
+use page_map::{PAGES_OF_RANGE, PageMap};
+use plain_file::{Blob, List, Memory};
 use std::alloc::Global;
+use std::process::Abort;
 use std::sync::Wait;
 use std::test::Fail;
 
@@ -29,32 +29,39 @@ fn script_in(alloc: Global, text: &[u8]) -> Option<Script>
     Some(script)
 }
 
-// The requests that playing a script sends.
-fn sent<R: Wait>(rt: &R, alloc: Global, script: &Script) -> Result<List<Blob>, Memory>
+// The requests that open and close the session of a script.
+fn session<R: Wait>(rt: &R, alloc: Global, script: &Script) -> Result<List<Blob>, Memory>
     requires { IsPlayable script.now }
 {
     let mut daemon = daemon_of(alloc, script)?;
     let solo = SoloWire::new(alloc, &mut daemon)?;
-    let client = Driver::new(KeepWire::new(alloc, solo));
-    sent_by(rt, alloc, script, client)
+    let mut client = Driver::new(KeepWire::new(alloc, solo));
+    let mut files = opening_board(alloc)?;
+    let mut map = PageMap::new(alloc, PAGES_OF_RANGE * script.ranges)?;
+    let lines = script.files.as_slice();
+    let opened = start_session(rt, alloc, &mut client, lines, &mut files, &mut map)?;
+    let handles = opened.as_slice();
+    end_session(rt, alloc, &mut client, handles, &mut files, &mut map);
+    copies(alloc, client.wire.requests().as_slice())
 }
 
-// Plays over a wire that keeps the requests, and tells them.
-fn sent_by<R: Wait, W>(
-    rt: &R,
-    alloc: Global,
-    script: &Script,
-    mut client: Driver<KeepWire<W>>,
-) -> Result<List<Blob>, Memory>
-where
-    W: Wire<PlainFiles, PageMap> + Drop,
-    requires playable { IsPlayable script.now }
-    requires honest { (W.wire client.wire.inner).honest ≡ true }
-    requires whole { (W.wire client.wire.inner).stays ≡ false }
-    requires new { (W.wire client.wire.inner).state ≡ new_state 0 (names_of script.now.files) }
+// The requests of the calls of a script's guest.
+fn calls<R: Wait>(rt: &R, alloc: Global, script: &Script) -> Result<List<Blob>, Memory>
+    requires { IsPlayable script.now }
 {
-    play(rt, alloc, script, &mut client)?;
-    copies(alloc, client.wire.requests().as_slice())
+    let mut daemon = daemon_of(alloc, script)?;
+    let mut client = Driver::new(SoloWire::new(alloc, &mut daemon)?);
+    let mut files = opening_board(alloc)?;
+    let mut map = PageMap::new(alloc, PAGES_OF_RANGE * script.ranges)?;
+    let lines = script.files.as_slice();
+    let opened = start_session(rt, alloc, &mut client, lines, &mut files, &mut map)?;
+    let client = Driver {
+        wire: KeepWire::new(alloc, client.wire),
+        unique: client.unique,
+    };
+    let mut guest = guest_of(alloc, lines, script.ranges, client, opened)?;
+    play_guests(rt, alloc, &mut guest, script.guests.as_slice())?;
+    copies(alloc, guest.dax.driver.wire.requests().as_slice())
 }
 
 fn copies(alloc: Global, requests: &[Blob]) -> Result<List<Blob>, Memory> {
@@ -65,40 +72,55 @@ fn copies(alloc: Global, requests: &[Blob]) -> Result<List<Blob>, Memory> {
     Ok(list)
 }
 
-// A run sends an INIT, a LOOKUP and an OPEN for each file, then one request for each call (GETATTR, WRITE or
-// READ), numbered from 1 on.
-#[test]
-fn sends_one_request_a_call(rt: HostRuntime) -> Result<(), Fail> {
-    let alloc = rt.alloc();
-    let Some(script) = script_in(alloc, FOUR.as_bytes()) else {
-        panic!(&rt; "no script")
-    };
-    let requests = sent(&rt, alloc, &script)?;
-    let mut headers = vec![in alloc]?;
-    for request in requests.as_slice() {
+// Each request has its number and its opcode.
+fn check_headers(rt: &impl Abort, requests: &[Blob], from: u64, opcodes: &[u32]) {
+    assert_eq!(rt; requests.len(), opcodes.len());
+    let mut number = from;
+    for (request, opcode) in requests.iter().zip(opcodes) {
         let Some(header) = request
             .as_slice()
             .get(..InHeader::SIZE)
             .and_then(InHeader::read)
         else {
-            panic!(&rt; "no header")
+            panic!(rt; "no header")
         };
-        headers.push((header.unique, header.opcode))?;
+        assert_eq!(rt; (header.unique, header.opcode), (number, *opcode));
+        number = number.wrapping_add(1);
     }
-    let wanted = [
-        (1, 26),
-        (2, 1),
-        (3, 14),
-        (4, 1),
-        (5, 14),
-        (6, 3),
-        (7, 16),
-        (8, 16),
-        (9, 15),
-        (10, 15),
-        (11, 3),
-        (12, 3),
-    ];
-    assert_eq!(rt; headers.as_slice(), wanted.as_slice());
+}
+
+// A session of two files: INIT; LOOKUP and OPEN of each; RELEASE of each; DESTROY.
+#[test]
+fn opens_and_closes(rt: HostRuntime) -> Result<(), Fail> {
+    let alloc = rt.alloc();
+    let Some(script) = script_in(alloc, FOUR.as_bytes()) else {
+        panic!(&rt; "no script")
+    };
+    let requests = session(&rt, alloc, &script)?;
+    check_headers(&rt, requests.as_slice(), 1, &[26, 1, 14, 1, 14, 18, 18, 38]);
+    Ok(())
+}
+
+// Without ranges each call is one request: GETATTR, WRITE or READ. With ranges reads and writes send none but
+// those of the window, SETUPMAPPING and REMOVEMAPPING, and a write that ends above the file's size is a WRITE.
+#[test]
+fn sends_what_calls_need(rt: HostRuntime) -> Result<(), Fail> {
+    let alloc = rt.alloc();
+    for (text, from, opcodes) in [
+        (FOUR, 6, [3, 16, 16, 15, 15, 3, 3].as_slice()),
+        (RECLAIM, 4, [48, 48, 49, 48].as_slice()),
+        (UPGRADE, 4, [48, 48].as_slice()),
+        (
+            "ranges 2\nfile a 0\nguest\nwrite a 0 61\nread a 0 1\nread a 0 9\nwrite a 0 62\nsize a\n",
+            4,
+            [16, 48, 48, 3].as_slice(),
+        ),
+    ] {
+        let Some(script) = script_in(alloc, text.as_bytes()) else {
+            panic!(&rt; "no script")
+        };
+        let requests = calls(&rt, alloc, &script)?;
+        check_headers(&rt, requests.as_slice(), from, opcodes);
+    }
     Ok(())
 }

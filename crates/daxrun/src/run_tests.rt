@@ -1,9 +1,12 @@
 use crate::runs::run;
+use dax_audit::{Verdict, audit};
+use dax_script::parse as parse_script;
 use plain_file::{Blob, List, Memory};
 use program_io::{MemSink, MemSource, Status, SureSink, SureSource, Word};
 use std::alloc::{AllocError, Global};
 use std::sync::Wait;
 use std::test::Fail;
+use transcript_text::parse as parse_transcript;
 
 // One guest that writes a file and reads it.
 pub const HELLO: &str = "ranges 0\nfile a 0\nguest\nwrite a 0 68656c6c6f\nread a 0 9\n";
@@ -17,6 +20,19 @@ pub const FOUR: &str =
 
 const FOUR_TOLD: &str =
     "transcript 1\nranges 0\nfile a 4 ab\nentry 0 0 req\nentry 0 2 req\nentry 0 3 req\nentry 0 5 req\nfile b 0 00\nentry 0 1 req\nentry 0 4 req\nentry 0 6 req\nguest 0\n0 done 0 size 4\n1 done 0 wrote 2\n2 done 1 wrote 3\n3 done 2 bytes abababab00007f7f7f\n4 done 1 bytes 00000102\n5 done 3 size 9\n6 done 2 size 4\nend\n";
+
+// Two ranges for three chunks: the third takes the range of the first.
+pub const RECLAIM: &str =
+    "ranges 2\nfile a 6291456\nguest\nread a 0 1\nread a 2097152 1\nread a 4194304 1\n";
+
+const RECLAIM_TOLD: &str =
+    "transcript 1\nranges 2\nfile a 6291456 00\nentry 0 0 via 0 1\nentry 0 1 via 1 2\nentry 0 2 via 3 4\nlog place 0 in 0 r\nlog place 1 in 1 r\nlog remove 0\nlog place 2 in 0 r\nguest 0\n0 done 0 bytes 00\n1 done 1 bytes 00\n2 done 2 bytes 00\nend\n";
+
+// A chunk that is placed to be read, and then written.
+pub const UPGRADE: &str = "ranges 2\nfile a 8\nguest\nread a 0 1\nwrite a 0 ff\n";
+
+const UPGRADE_TOLD: &str =
+    "transcript 1\nranges 2\nfile a 8 00\nentry 0 0 via 0 1\nentry 0 1 via 0 2\nlog place 0 in 0 r\nlog upgrade 0\nguest 0\n0 done 0 bytes 00\n1 done 1 wrote 1\nend\n";
 
 const LATER: &str = "refused later\n";
 
@@ -76,6 +92,17 @@ pub fn answer_to<R: Wait>(rt: &R, alloc: Global, text: &[u8]) -> Result<(Status,
     )
 }
 
+// The audit's verdict over the texts of a script and of its transcript; None where one of them isn't any.
+fn verdict_on(alloc: Global, script: &[u8], told: &[u8]) -> Result<Option<Verdict>, Memory> {
+    let Ok(script) = parse_script(alloc, script) else {
+        return Ok(None);
+    };
+    let Ok(transcript) = parse_transcript(alloc, told) else {
+        return Ok(None);
+    };
+    Ok(Some(audit(alloc, &script, &transcript)?))
+}
+
 #[test]
 fn writes_transcripts(rt: HostRuntime) -> Result<(), Fail> {
     for (script, transcript) in [
@@ -104,6 +131,29 @@ fn writes_transcripts(rt: HostRuntime) -> Result<(), Fail> {
             "ranges 0\nfile a 2\nguest\nwrite a 1 aabbcc\nwrite a 0 dd\nwrite a 3 eeff\nread a 0 9\nread a 1 3\n",
             "transcript 1\nranges 0\nfile a 2 00\nentry 0 0 req\nentry 0 1 req\nentry 0 2 req\nentry 0 3 req\nentry 0 4 req\nguest 0\n0 done 0 wrote 3\n1 done 1 wrote 1\n2 done 2 wrote 2\n3 done 3 bytes ddaabbeeff\n4 done 4 bytes aabbee\nend\n",
         ),
+        (RECLAIM, RECLAIM_TOLD),
+        (UPGRADE, UPGRADE_TOLD),
+        ("ranges 2\n", "transcript 1\nranges 2\nend\n"),
+        // A write that ends at the size goes through the window, one that ends above it is a request.
+        (
+            "ranges 2\nfile a 5\nguest\nwrite a 2 616263\nwrite a 3 616263\nread a 0 9\n",
+            "transcript 1\nranges 2\nfile a 5 00\nentry 0 0 via 0 1\nentry 0 1 req 5\nentry 0 2 via 0 1\nlog place 0 in 0 w\nguest 0\n0 done 0 wrote 3\n1 done 1 wrote 3\n2 done 2 bytes 000061616263\nend\n",
+        ),
+        // Reads past the end are direct too.
+        (
+            "ranges 256\nfile a 3 7a\nguest\nread a 2 9\nread a 3 1\nread a 67108860 4\nsize a\n",
+            "transcript 1\nranges 256\nfile a 3 7a\nentry 0 0 via 0 1\nentry 0 1 via 0 1\nentry 0 2 via 1 2\nentry 0 3 req\nlog place 0 in 0 r\nlog place 31 in 1 r\nguest 0\n0 done 0 bytes 7a\n1 done 1 bytes -\n2 done 2 bytes -\n3 done 3 size 3\nend\n",
+        ),
+        // A write over the seam of two chunks, and what it leaves on both sides.
+        (
+            "ranges 2\nfile a 4194304\nguest\nwrite a 2097150 01020304\nread a 2097149 6\nfill a 2097151 2 ff\nread a 2097152 1\n",
+            "transcript 1\nranges 2\nfile a 4194304 00\nentry 0 0 via 0 1 1 2\nentry 0 1 via 0 2 1 2\nentry 0 2 via 0 2 1 2\nentry 0 3 via 1 2\nlog place 0 in 0 w\nlog place 1 in 1 w\nguest 0\n0 done 0 wrote 4\n1 done 1 bytes 000102030400\n2 done 2 wrote 2\n3 done 3 bytes ff\nend\n",
+        ),
+        // A range that is taken from one file for another.
+        (
+            "ranges 2\nfile a 1 61\nfile b 1 62\nguest\nread a 0 1\nread b 0 1\nread a 2097152 1\nread b 0 1\nread a 0 1\n",
+            "transcript 1\nranges 2\nfile a 1 61\nentry 0 0 via 0 1\nentry 0 2 via 2 3\nentry 0 4 via 3 4\nlog place 0 in 0 r\nlog remove 0\nlog place 1 in 0 r\nlog place 0 in 1 r\nfile b 1 62\nentry 0 1 via 0 1\nentry 0 3 via 0 1\nlog place 0 in 1 r\nlog remove 1\nguest 0\n0 done 0 bytes 61\n1 done 0 bytes 62\n2 done 1 bytes -\n3 done 1 bytes 62\n4 done 2 bytes 61\nend\n",
+        ),
         // The largest file, read and written at its end.
         (
             "ranges 0\nfile big 67108864\nguest\nread big 67108860 4\nwrite big 67108863 01\nread big 67108862 2\n",
@@ -113,7 +163,28 @@ fn writes_transcripts(rt: HostRuntime) -> Result<(), Fail> {
         let (status, taken) = answer_to(&rt, rt.alloc(), script.as_bytes())?;
         assert_eq!(rt; status, Status::Ok, "{script}");
         assert_eq!(rt; taken.as_slice(), transcript.as_bytes(), "{script}");
+        let verdict = verdict_on(rt.alloc(), script.as_bytes(), taken.as_slice())?;
+        assert_eq!(rt; verdict, Some(Verdict::Legal), "{script}");
     }
+    Ok(())
+}
+
+// The longest call, which meets two chunks: a megabyte of zeros around the seam.
+#[test]
+fn reads_over_the_seam(rt: HostRuntime) -> Result<(), Fail> {
+    let alloc = rt.alloc();
+    let script = "ranges 2\nfile a 4194304\nguest\nread a 1572864 1048576\n";
+    let mut told = String::from_str(
+        alloc,
+        "transcript 1\nranges 2\nfile a 4194304 00\nentry 0 0 via 0 1 1 2\nlog place 0 in 0 r\nlog place 1 in 1 r\nguest 0\n0 done 0 bytes ",
+    )?;
+    for _byte in 0..1_048_576 {
+        told.push_str("00")?;
+    }
+    told.push_str("\nend\n")?;
+    let (status, taken) = answer_to(&rt, alloc, script.as_bytes())?;
+    assert_eq!(rt; status, Status::Ok);
+    assert!(rt; taken.as_slice() == told.as_bytes());
     Ok(())
 }
 
@@ -147,8 +218,9 @@ fn refuses_texts(rt: HostRuntime) -> Result<(), Fail> {
             "refused line 4 mode\n",
         ),
         ("ranges 0\nguest\nrelease 0\n", "refused line 3 hold\n"),
-        ("ranges 2\n", LATER),
         ("ranges 2\nbackground 3\n", LATER),
+        ("ranges 2\nguest\nguest\n", LATER),
+        ("ranges 2\nfile a 1\nguest\nhold a 0 r\n", LATER),
         ("ranges 0\nguest\nguest\n", LATER),
         ("ranges 0\nfile a 0\nguest\ntruncate a 0\n", LATER),
     ] {

@@ -161,7 +161,8 @@ pub fn end_session<R: Wait, W>(
     opened: &[FileRef],
     files: &mut PlainFiles,
     map: &mut PageMap,
-) where
+)
+where
     W: Wire<PlainFiles, PageMap>,
     requires live { IsLive (W.wire client.old.wire) (boards files.old map.old) }
 {
@@ -179,7 +180,8 @@ fn close_file<R: Wait, W>(
     at: FileRef,
     files: &mut PlainFiles,
     map: &mut PageMap,
-) where
+)
+where
     W: Wire<PlainFiles, PageMap>,
     requires live { IsLive (W.wire client.old.wire) (boards files.old map.old) }
     ensures live { IsLive (W.wire client.new.wire) (boards files.new map.new) }

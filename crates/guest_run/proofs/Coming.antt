@@ -18,13 +18,16 @@ use Rattle.guest_run.specs.Working.{CameBy, Comes}
 
 pub comes_read : (s t : Stand) (n file off len : ℕ) (answer : Result Done Refusal) → s.wire.honest ≡ true → Reads s file n off len answer t → Comes s n (calls.Read file off len) answer t
 unfolding asked is_taking CameBy
-comes_read s t n file off len (Ok d) honest (looks, (way, is, directs)) = (looks, record {
-  to = record { file = file; op = ops.Read off len };
-  way = way;
-  asks = refl;
-  directs = directs honest;
-  came = is;
-})
+comes_read s t n file off len (Ok d) honest (looks, (way, is, directs)) = (
+  looks,
+  record {
+    to = record { file = file; op = ops.Read off len };
+    way = way;
+    asks = refl;
+    directs = directs honest;
+    came = is;
+  },
+)
 comes_read s t n file off len (Err (refusals.Busy looked)) honest (busy, undone) = record {
   to = record { file = file; op = ops.Read off len };
   asks = refl;
@@ -41,13 +44,16 @@ comes_read s t n file off len (Err refusals.WireFault) honest k = true≢false (
 
 pub comes_write : (s t : Stand) (n file off : ℕ) (bytes : List ℕ) (c : Call) (answer : Result Done Refusal) → asked c ≡ Some (record { file = file; op = ops.Write off bytes }) → is_taking c ≡ true → s.wire.honest ≡ true → Writes s file n off bytes answer t → Comes s n c answer t
 unfolding CameBy
-comes_write s t n file off bytes c (Ok d) asks takes honest (looks, (way, how)) = (looks, record {
-  to = record { file = file; op = ops.Write off bytes };
-  way = way;
-  asks = asks;
-  directs = (how honest).0;
-  came = (how honest).1;
-})
+comes_write s t n file off bytes c (Ok d) asks takes honest (looks, (way, how)) = (
+  looks,
+  record {
+    to = record { file = file; op = ops.Write off bytes };
+    way = way;
+    asks = asks;
+    directs = (how honest).0;
+    came = (how honest).1;
+  },
+)
 comes_write s t n file off bytes c (Err (refusals.Busy looked)) asks takes honest (busy, undone) = record {
   to = record { file = file; op = ops.Write off bytes };
   asks = asks;
@@ -64,13 +70,16 @@ comes_write s t n file off bytes c (Err refusals.WireFault) asks takes honest k 
 
 pub comes_size : (s t : Stand) (n file : ℕ) (answer : Result Done Refusal) → NoLooks t.map → s.wire.honest ≡ true → Sends s file n ops.Size ways.Req answer t → Comes s n (calls.Size file) answer t
 unfolding asked CameBy
-comes_size s t n file (Ok d) looks honest (newest, directs) = (looks, record {
-  to = record { file = file; op = ops.Size };
-  way = ways.Req;
-  asks = refl;
-  directs = directs honest;
-  came = refl;
-})
+comes_size s t n file (Ok d) looks honest (newest, directs) = (
+  looks,
+  record {
+    to = record { file = file; op = ops.Size };
+    way = ways.Req;
+    asks = refl;
+    directs = directs honest;
+    came = refl;
+  },
+)
 comes_size s t n file (Err (refusals.Busy looked)) looks honest k = absurd k
 comes_size s t n file (Err refusals.Memory) looks honest k = looks
 comes_size s t n file (Err (refusals.Errno x)) looks honest is = true≢false (sym honest ∙ is)

@@ -134,8 +134,8 @@ module _ (guest ranges : ℕ) (first : ℕ → First) (from : ℕ → ℕ) (s t 
       let place : d.place ≡ length (h f) = k.place ∙ ap length (sym here) in
       let told : d.answer ≡ answer (bytes (first f) (h f) (length (h f))) m.to.op = k.answered ∙ (λ i. answer (bytes (firsts f i) (here (~ i)) (length (here (~ i)))) m.to.op) in
       let came : FitsWay ranges (first f) (history_at t.files f) (log_at t.map f) (IsSeenBefore cs ls f (length cs)) (length (h f)) m.to.op m.way =
-          subst (λ (z : ℕ × First × ℕ). FitsWay z.0 z.1 (history_at t.files f) (log_at t.map f) (IsSeenBefore cs ls f (length cs)) z.2 m.to.op m.way) (λ i. (count i, (k.first ∙ firsts f) i, place i))
-          (fits (range_count s.map) (log_at t.map f) (file_at s.files f) (file_at t.files f) (IsSeenBefore cs ls f (length cs)) m.to.op d.place m.way (not_passed f) m.came) in
+      subst (λ (z : ℕ × First × ℕ). FitsWay z.0 z.1 (history_at t.files f) (log_at t.map f) (IsSeenBefore cs ls f (length cs)) z.2 m.to.op m.way) (λ i. (count i, (k.first ∙ firsts f) i, place i))
+      (fits (range_count s.map) (log_at t.map f) (file_at s.files f) (file_at t.files f) (IsSeenBefore cs ls f (length cs)) m.to.op d.place m.way (not_passed f) m.came) in
       one_more guest ranges first from h (history_at t.files) (log_at t.map) cs ls c m.to m.way its_line
       (seen_on guest ranges first from (history_at s.files) h (log_at s.map) (log_at t.map) cs ls (goes_one guest (history_at s.files) f k.more (theirs k.more k.others)) keeps.map.logs run)
       m.asks came
@@ -148,8 +148,8 @@ module _ (guest ranges : ℕ) (first : ℕ → First) (from : ℕ → ℕ) (s t 
       let f = g.to.file in
       let u = g.undone in
       let goes : (x : ℕ) → GoesOn guest (history_at s.files x) (history_at t.files x) = λ x. dite (ℕ_discrete x f)
-          (λ e. subst (λ (y : ℕ). GoesOn guest (history_at s.files y) (history_at t.files y)) (sym e) (subst (GoesOn guest (history_at s.files f)) (sym u.history) (goes_by guest (history_at s.files f) u.more (theirs u.more u.others))))
-          (λ else. subst (GoesOn guest (history_at s.files x)) (sym (ap (λ (v : FileView). v.history) (u.stay x else))) (goes_same guest (history_at s.files x))) in
+      (λ e. subst (λ (y : ℕ). GoesOn guest (history_at s.files y) (history_at t.files y)) (sym e) (subst (GoesOn guest (history_at s.files f)) (sym u.history) (goes_by guest (history_at s.files f) u.more (theirs u.more u.others))))
+      (λ else. subst (GoesOn guest (history_at s.files x)) (sym (ap (λ (v : FileView). v.history) (u.stay x else))) (goes_same guest (history_at s.files x))) in
       one_blocked guest ranges first from (history_at t.files) (log_at t.map) cs ls c its_line
       (seen_on guest ranges first from (history_at s.files) (history_at t.files) (log_at s.map) (log_at t.map) cs ls goes keeps.map.logs run)
       (record {

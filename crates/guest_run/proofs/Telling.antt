@@ -95,10 +95,10 @@ never_busy old file off len looked new a (some, is, how) =
     ⊎_elim
     (λ (h : AllBlocked old new × _). not_blocked old new 0 a.alone (none_pinned old.hands.pins 0 a.unpinned) (h.0 0 some))
     (λ (h : (last_chunk off len ≡ first_chunk off + 1) × ((range : ℕ) × AllBlocked (one_more_pin old range) new) × _).
-        let range = h.1.0 in let at = λ (r : ℕ) (within : r < range_count old). h.1.1 r (subst (λ n. r < n) (sym (count_pinned old range)) within) in
-        dite (ℕ_discrete 0 range)
-        (λ e. not_blocked (one_more_pin old range) new 1 a.alone (pinned_elsewhere old range 1 a.unpinned (λ k. absurd (omega (arith, e, k)))) (at 1 two))
-        (λ else. not_blocked (one_more_pin old range) new 0 a.alone (pinned_elsewhere old range 0 a.unpinned else) (at 0 some)))
+    let range = h.1.0 in let at = λ (r : ℕ) (within : r < range_count old). h.1.1 r (subst (λ n. r < n) (sym (count_pinned old range)) within) in
+    dite (ℕ_discrete 0 range)
+    (λ e. not_blocked (one_more_pin old range) new 1 a.alone (pinned_elsewhere old range 1 a.unpinned (λ k. absurd (omega (arith, e, k)))) (at 1 two))
+    (λ else. not_blocked (one_more_pin old range) new 0 a.alone (pinned_elsewhere old range 0 a.unpinned else) (at 0 some)))
     how
 
 -- ---- what is left
@@ -190,13 +190,17 @@ honest_answer s t n c (Err (refusals.BadReply x)) k = k
 honest_answer s t n c (Err refusals.WireFault) k = k
 
 pub Tells-line : (s t u : Stand) (n : ℕ) (c : Call) (answer : Result Done Refusal) (told : Result Line Memory) → LeavesAll s t → IsSoundRanges t.map → Comes s n c answer t → LineOf t.map answer told u.map → u.files ≡ t.files → Tells s n c told u
-Tells-line s t u n c (Ok d) (Ok l) keeps sound (looks, made) (is, same) files = inl (d, is, record {
-  to = made.to;
-  way = made.way;
-  asks = made.asks;
-  directs = rw files made.directs;
-  came = rw (files, same) made.came;
-})
+Tells-line s t u n c (Ok d) (Ok l) keeps sound (looks, made) (is, same) files = inl (
+  d,
+  is,
+  record {
+    to = made.to;
+    way = made.way;
+    asks = made.asks;
+    directs = rw files made.directs;
+    came = rw (files, same) made.came;
+  },
+)
 Tells-line s t u n c (Ok d) (Err e) keeps sound k h files = tt
 Tells-line s t u n c (Err (refusals.Busy looked)) (Ok l) keeps sound k (is, same) files = inr (record {
   to = k.to;

@@ -101,7 +101,12 @@ where
         Call::Write { file, off, bytes } => {
             guest.write(rt, alloc, number, *file, *off, bytes.as_slice())
         }
-        Call::Fill { file, off, len, byte } => match fill(filling, *len, *byte) {
+        Call::Fill {
+            file,
+            off,
+            len,
+            byte,
+        } => match fill(filling, *len, *byte) {
             Ok(()) => guest.write(rt, alloc, number, *file, *off, filling.as_slice()),
             Err(_) => Err(Refusal::Memory),
         },
