@@ -1,3 +1,5 @@
 pub mod Places
 pub mod Ways
 pub mod Guests
+pub mod Asking
+pub mod AllGuests
