@@ -3,3 +3,4 @@ pub mod Ways
 pub mod Guests
 pub mod Asking
 pub mod AllGuests
+pub mod RunExamples
