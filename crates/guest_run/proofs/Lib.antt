@@ -1,1 +1,9 @@
+pub mod Places
+pub mod Ways
+pub mod Guests
+pub mod Asking
+pub mod AllGuests
+pub mod RunExamples
 pub mod Telling
+pub mod Coming
+pub mod Stepping
