@@ -151,3 +151,7 @@ pin-had-raw v file chunk p tree sound e = pin-had v file chunk p tree sound (sub
 pub PinsFound-keeps : (v : MapView) (file chunk : ℕ) (mode : Mode) (o : Option Pinned) (w : MapView) → PinsFound v file chunk mode o w → KeepsMap v w
 PinsFound-keeps v file chunk mode None w (e, none) = subst (λ (m : MapView). KeepsMap v m) (sym e) (KeepsMap-same v)
 PinsFound-keeps v file chunk mode (Some p) w (e, log, pin, keeps) = keeps
+
+pub PinsFound-logs : (v : MapView) (file chunk : ℕ) (mode : Mode) (o : Option Pinned) (w : MapView) → PinsFound v file chunk mode o w → w.ranges.logs ≡ v.ranges.logs
+PinsFound-logs v file chunk mode None w (e, none) = ap (λ (m : MapView). m.ranges.logs) e
+PinsFound-logs v file chunk mode (Some p) w (e, log, pin, keeps) = ap (λ (m : MapView). m.ranges.logs) e

@@ -194,6 +194,14 @@ enter-alone v file chunk mode w h others enough =
     let e : log_at w file ≡ log_at v file = ap (λ (m : MapView). log_at m file) h.becomes.rest ∙ ap (λ (more : List LogEntry). get_or (slice_set v.ranges.logs file (log_at v file ++ more)) file []) (h.alone others) ∙ log-set v.ranges.logs file in
     subst (λ (l : List LogEntry). IsEnoughPlaced mode (placed_at l chunk)) (sym e) enough
 
+logs-set : (logs : List (List LogEntry)) (file : ℕ) → slice_set logs file (get_or logs file [] ++ []) ≡ logs
+logs-set [] file = refl
+logs-set (l ∷ ls) zero = ap (λ (x : List LogEntry). x ∷ ls) (append-nil l)
+logs-set (l ∷ ls) (suc file) = ap (λ (xs : List (List LogEntry)). l ∷ xs) (logs-set ls file)
+
+pub enter-logs : (v : MapView) (file : ℕ) (w : MapView) → Enters v file w → v.ranges.others ≡ false → w.ranges.logs ≡ v.ranges.logs
+enter-logs v file w h others = ap (λ (m : MapView). m.ranges.logs) h.becomes.rest ∙ ap (λ (more : List LogEntry). slice_set v.ranges.logs file (log_at v file ++ more)) (h.alone others) ∙ logs-set v.ranges.logs file
+
 moved-is : (v : MapView) (range : ℕ) → v.hands.moves ≡ Some range → moved_of v ≡ range
 moved-is v range e = ap (λ (m : Option ℕ). unwrap_or m 0) e
 

@@ -21,8 +21,8 @@ where
 {
     /// Pins the range of a chunk of a file, where the file's tree has the chunk: enters the tree, upgrades
     /// the chunk where it is placed for reading and is to be written, pins it, and leaves. None comes
-    /// exactly where the tree hadn't the chunk. It notes no look, and sends nothing where the chunk is
-    /// placed with a mode that is enough and no other board moves ranges.
+    /// exactly where the tree hadn't the chunk. It notes no look. Where the chunk is placed with a mode
+    /// that is enough and no other board moves ranges, it sends nothing, and no log changes.
     ///
     /// # Errors
     ///
@@ -44,6 +44,7 @@ where
         ensures pins { PinsChunk (stand (W.wire self.old.driver.wire) (F.board self.old.files) (R.map self.old.ranges)) file chunk mode result (stand (W.wire self.new.driver.wire) (F.board self.new.files) (R.map self.new.ranges)) }
         ensures cause { IfErr result (λ e. IsCause W.wire W.gives self.old.driver.wire self.old.driver.unique e self.new.driver.wire self.new.driver.unique) }
         ensures quiet { (R.map self.old.ranges).ranges.others ≡ false → IsEnoughPlaced mode (placed_at (log_at (R.map self.old.ranges) file) chunk) → self.new.driver ≡ self.old.driver }
+        ensures still { (R.map self.old.ranges).ranges.others ≡ false → IsEnoughPlaced mode (placed_at (log_at (R.map self.old.ranges) file) chunk) → (R.map self.new.ranges).ranges.logs ≡ (R.map self.old.ranges).ranges.logs }
         ensures looks { (R.map self.new.ranges).ranges.looks ≡ (R.map self.old.ranges).ranges.looks }
         ensures rounds { (R.map self.new.ranges).ranges.rounds ≡ (R.map self.old.ranges).ranges.rounds }
         ensures refs { self.new.refs ≡ self.old.refs }
@@ -72,6 +73,7 @@ where
         ensures pins { PinsPlaced (stand (W.wire self.old.driver.wire) (F.board self.old.files) (R.map self.old.ranges)) file chunk mode result (stand (W.wire self.new.driver.wire) (F.board self.new.files) (R.map self.new.ranges)) }
         ensures cause { IfErr result (λ e. IsCause W.wire W.gives self.old.driver.wire self.old.driver.unique e self.new.driver.wire self.new.driver.unique) }
         ensures quiet { IsEnoughPlaced mode (placed_at (log_at (R.map self.old.ranges) file) chunk) → self.new.driver ≡ self.old.driver }
+        ensures still { IsEnoughPlaced mode (placed_at (log_at (R.map self.old.ranges) file) chunk) → (R.map self.new.ranges).ranges.logs ≡ (R.map self.old.ranges).ranges.logs }
         ensures looks { (R.map self.new.ranges).ranges.looks ≡ (R.map self.old.ranges).ranges.looks }
         ensures rounds { (R.map self.new.ranges).ranges.rounds ≡ (R.map self.old.ranges).ranges.rounds }
         ensures refs { self.new.refs ≡ self.old.refs }

@@ -92,6 +92,7 @@ where
         ensures enough { MakesEnough (stand (W.wire self.old.driver.wire) (F.board self.old.files) (R.map self.old.ranges)) file chunk mode result (stand (W.wire self.new.driver.wire) (F.board self.new.files) (R.map self.new.ranges)) }
         ensures cause { IfErr result (λ e. IsCause W.wire W.gives self.old.driver.wire self.old.driver.unique e self.new.driver.wire self.new.driver.unique) }
         ensures quiet { IsEnoughPlaced mode (placed_at (log_at (R.map self.old.ranges) file) chunk) → self.new.driver ≡ self.old.driver }
+        ensures still { IsEnoughPlaced mode (placed_at (log_at (R.map self.old.ranges) file) chunk) → (R.map self.new.ranges).ranges.logs ≡ (R.map self.old.ranges).ranges.logs }
         ensures looks { (R.map self.new.ranges).ranges.looks ≡ (R.map self.old.ranges).ranges.looks }
         ensures rounds { (R.map self.new.ranges).ranges.rounds ≡ (R.map self.old.ranges).ranges.rounds }
         ensures refs { self.new.refs ≡ self.old.refs }

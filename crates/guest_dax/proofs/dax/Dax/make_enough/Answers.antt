@@ -25,3 +25,8 @@ returns-in-None-clause-keeps g c = Keeps-same _
 
 pub returns-in-None-clause-enough : goal.returns-in-None-clause-enough
 returns-in-None-clause-enough g c = (refl, enough-none (g.R.MapBoard.map c.args.self.now.ranges) c.args.file c.args.chunk c.args.mode c.find.result c.requires.tree c.find.ensures.placed (c.in-None.ensures {u = tt}), λ none. none)
+
+pub returns-in-Some-clause-still : goal.returns-in-Some-clause-still
+returns-in-Some-clause-still g c enough =
+    let (mode, (entry, e)) = c.in-Some.ensures {u = tt} in
+    absurd (not-enough-at (g.R.MapBoard.map c.args.self.now.ranges) c.args.file c.args.chunk c.args.mode c.find.result c.in-Some.range entry c.requires.tree c.find.ensures.placed mode e enough)

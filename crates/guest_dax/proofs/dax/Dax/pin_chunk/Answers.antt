@@ -1,7 +1,9 @@
+use Rattle.std.proofs.Common.{◌∙◌, ap}
+use Rattle.page_map.specs.Board.{MapView}
 use Rattle.guest_dax.specs.Stands.{stand}
 use Rattle.guest_dax.proofs.Keeping.{KeepsMap-enter, KeepsMap-leave}
 use Rattle.guest_dax.proofs.Walking.{Keeps-both, Keeps-map}
-use Rattle.guest_dax.proofs.Upgrading.{enter-alone}
+use Rattle.guest_dax.proofs.Upgrading.{enter-alone, enter-logs}
 use Rattle.guest_dax.proofs.dax.Dax.pin_chunk.Goals as goal
 
 pub returns-clause-keeps : goal.returns-clause-keeps
@@ -14,3 +16,9 @@ returns-clause-keeps g c =
 pub returns-clause-quiet : goal.returns-clause-quiet
 returns-clause-quiet g c others enough =
     c.pin_placed-pinned.ensures.quiet (enter-alone (g.R.MapBoard.map c.args.self.now.ranges) c.args.file c.args.chunk c.args.mode _ c.enter.ensures others enough)
+
+pub returns-clause-still : goal.returns-clause-still
+returns-clause-still g c others enough =
+    let s = g.R.MapBoard.map c.args.self.now.ranges in
+    let t = g.R.MapBoard.map c.enter.new.self in
+    ap (λ (m : MapView). m.ranges.logs) c.leave.ensures.rest ∙ c.pin_placed-pinned.ensures.still (enter-alone s c.args.file c.args.chunk c.args.mode t c.enter.ensures others enough) ∙ enter-logs s c.args.file t c.enter.ensures others
