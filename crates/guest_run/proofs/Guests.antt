@@ -165,9 +165,6 @@ module _ (guest ranges : ℕ) (first : ℕ → First) (from : ℕ → ℕ) (h h'
     (came : FitsWay ranges (first to.file) (h' to.file) (logs to.file) (IsSeenBefore cs ls to.file (length cs)) (length (h to.file)) to.op way)
     (here : h' to.file ≡ h to.file ++ the_entry guest (length cs) to.op way ∷ []) (else_same : (f : ℕ) → f ≢ to.file → h' f ≡ h f)
     (is : l ≡ record { call = length cs; line = lines.Done (length (h to.file)) (answer (bytes (first to.file) (h to.file) (length (h to.file))) to.op) }) where
-  newest_entry : Entry
-  newest_entry = the_entry guest (length cs) to.op way
-
   longer : AreLonger h h'
   longer f = dite (ℕ_discrete f to.file)
       (λ e. (the_entry guest (length cs) to.op way ∷ [], ap h' e ∙ (here ∙ ap (λ (x : ℕ). h x ++ the_entry guest (length cs) to.op way ∷ []) (sym e))))

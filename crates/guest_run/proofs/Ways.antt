@@ -1,6 +1,6 @@
 -- How an operation came to its file, in longer histories and logs.
-use Rattle.std.proofs.Common.{◌≡◌, ◌∙◌, ap, sym, subst, ℕ, ◌+◌, ◌≤◌, ◌&&◌, Bool, true, false, List, [], ◌∷◌, ◌++◌, length, take, drop, get_or, arith, length-append}
-use Rattle.std.proofs.lemmas.Bool.{and_parts}
+use Rattle.std.proofs.Common.{◌≡◌, ◌∙◌, ap, sym, subst, ℕ, ◌+◌, ◌≤◌, Bool, true, false, List, [], ◌∷◌, ◌++◌, length, take, drop, get_or, arith, length-append}
+use Rattle.std.proofs.lemmas.Bool.{and_parts, and_from}
 use Rattle.std.proofs.lemmas.Option.{get_or_from_slice_get}
 use Rattle.plain_file.specs.declared.operations.Entry.{Entry}
 use Rattle.plain_file.specs.declared.operations.First.{First}
@@ -35,9 +35,6 @@ live_on write log more chunk k m is =
     live_lasts write (log ++ more) chunk k m x.0 l.0 (omega (arith, l.1, length-append log more))
     ∙ ((λ i. lasts write (here i) chunk (drop (k + 1) (taken i))) ∙ (sym (live_lasts write log chunk k m x.0 l.0 l.1) ∙ is))
 
-both : (a b : Bool) → a ≡ true → b ≡ true → (a && b) ≡ true
-both a b p q = grind arith
-
 pub covers_on : (write : Bool) (log more : List LogEntry) (cs : List ℕ) (ks : List Through) → covers write log cs ks ≡ true → covers write (log ++ more) cs ks ≡ true
 unfolding covers
 covers_on write log more [] [] is = is
@@ -45,7 +42,7 @@ covers_on write log more [] (k ∷ ks) is = is
 covers_on write log more (c ∷ cs) [] is = is
 covers_on write log more (c ∷ cs) (k ∷ ks) is =
     let p = and_parts (is_live write log c k.entry k.upto) (covers write log cs ks) is in
-    both (is_live write (log ++ more) c k.entry k.upto) (covers write (log ++ more) cs ks) (live_on write log more c k.entry k.upto p.0) (covers_on write log more cs ks p.1)
+    and_from (is_live write (log ++ more) c k.entry k.upto) (covers write (log ++ more) cs ks) (live_on write log more c k.entry k.upto p.0) (covers_on write log more cs ks p.1)
 
 -- where there is a window
 window_on : (first : First) (h rest : List Entry) (log more : List LogEntry) (seen seen' : ℕ → Type 0) (place : ℕ) (op : Op) (way : Way)
