@@ -102,18 +102,18 @@ at_file : (h : ℕ → List Entry) (f : ℕ) (hs : List Entry) → with_history 
 at_file h f hs = ap (λ (b : Bool). if b then hs else h f) (eq-eqb f f refl)
 
 at_other : (h : ℕ → List Entry) (f g : ℕ) (hs : List Entry) → g ≢ f → with_history h f hs g ≡ h g
-at_other h f g hs else = ap (λ (b : Bool). if b then hs else h g) (ne_eqb g f else)
+at_other h f g hs apart = ap (λ (b : Bool). if b then hs else h g) (ne_eqb g f apart)
 
 goes_one : (guest : ℕ) (h : ℕ → List Entry) (f : ℕ) (more : List Entry) → All (λ e. e.guest ≢ guest) more → (g : ℕ) → GoesOn guest (h g) (with_history h f (h f ++ more) g)
 goes_one guest h f more others g = dite (ℕ_discrete g f)
     (λ e. subst (λ (x : ℕ). GoesOn guest (h x) (with_history h f (h f ++ more) x)) (sym e) (subst (GoesOn guest (h f)) (sym (at_file h f (h f ++ more))) (goes_by guest (h f) more others)))
-    (λ else. subst (GoesOn guest (h g)) (sym (at_other h f g (h f ++ more) else)) (goes_same guest (h g)))
+    (λ apart. subst (GoesOn guest (h g)) (sym (at_other h f g (h f ++ more) apart)) (goes_same guest (h g)))
 
 -- ---- one more call
 
 module _ (guest ranges : ℕ) (first : ℕ → First) (from : ℕ → ℕ) (s t : Stand) (cs : List Call) (ls : List Numbered) (c : Call) (n : ℕ) (l : Line) (number : n ≡ length cs) (own : s.files.guest ≡ guest) (count : range_count s.map ≡ ranges) (firsts : (f : ℕ) → first_at s.files f ≡ first f) (keeps : LeavesAll s t) (run : IsRunFrom guest ranges first from (history_at s.files) (log_at s.map) cs ls) where
   -- the line of the call
-  its_line : Numbered
+  abbrev pub its_line : Numbered
   its_line = record { call = n; line = l }
 
   -- what was made is of others
@@ -132,15 +132,15 @@ module _ (guest ranges : ℕ) (first : ℕ → First) (from : ℕ → ℕ) (s t 
       let h = with_history (history_at s.files) f past in
       let here : h f ≡ past = at_file (history_at s.files) f past in
       let place : d.place ≡ length (h f) = k.place ∙ ap length (sym here) in
-      let told : d.answer ≡ answer (bytes (first f) (h f) (length (h f))) m.to.op = k.answered ∙ (λ i. answer (bytes (firsts f i) (here (~ i)) (length (here (~ i)))) m.to.op) in
+      let told : d.answer ≡ answer (bytes (first f) (h f) (length (h f))) m.to.op = k.answered ∙ (λ i. answer (bytes (firsts f i) (sym here i) (length (sym here i))) m.to.op) in
       let came : FitsWay ranges (first f) (history_at t.files f) (log_at t.map f) (IsSeenBefore cs ls f (length cs)) (length (h f)) m.to.op m.way =
       subst (λ (z : ℕ × First × ℕ). FitsWay z.0 z.1 (history_at t.files f) (log_at t.map f) (IsSeenBefore cs ls f (length cs)) z.2 m.to.op m.way) (λ i. (count i, (k.first ∙ firsts f) i, place i))
       (fits (range_count s.map) (log_at t.map f) (file_at s.files f) (file_at t.files f) (IsSeenBefore cs ls f (length cs)) m.to.op d.place m.way (not_passed f) m.came) in
       one_more guest ranges first from h (history_at t.files) (log_at t.map) cs ls c m.to m.way its_line
       (seen_on guest ranges first from (history_at s.files) h (log_at s.map) (log_at t.map) cs ls (goes_one guest (history_at s.files) f k.more (theirs k.more k.others)) keeps.map.logs run)
       m.asks came
-      (k.history ∙ (λ i. here (~ i) ++ the_entry (own i) (number i) m.to.op m.way ∷ []))
-      (λ g else. ap (λ (v : FileView). v.history) (m.directs.others g else) ∙ sym (at_other (history_at s.files) f g past else))
+      (k.history ∙ (λ i. sym here i ++ the_entry (own i) (number i) m.to.op m.way ∷ []))
+      (λ g apart. ap (λ (v : FileView). v.history) (m.directs.others g apart) ∙ sym (at_other (history_at s.files) f g past apart))
       (λ i. record { call = number i; line = (is ∙ (λ j. lines.Done (place j) (told j))) i })
 
   given_up : IsGivenUp s c l t → IsRunFrom guest ranges first from (history_at t.files) (log_at t.map) (cs ++ c ∷ []) (ls ++ its_line ∷ [])
@@ -149,7 +149,7 @@ module _ (guest ranges : ℕ) (first : ℕ → First) (from : ℕ → ℕ) (s t 
       let u = g.undone in
       let goes : (x : ℕ) → GoesOn guest (history_at s.files x) (history_at t.files x) = λ x. dite (ℕ_discrete x f)
       (λ e. subst (λ (y : ℕ). GoesOn guest (history_at s.files y) (history_at t.files y)) (sym e) (subst (GoesOn guest (history_at s.files f)) (sym u.history) (goes_by guest (history_at s.files f) u.more (theirs u.more u.others))))
-      (λ else. subst (GoesOn guest (history_at s.files x)) (sym (ap (λ (v : FileView). v.history) (u.stay x else))) (goes_same guest (history_at s.files x))) in
+      (λ apart. subst (GoesOn guest (history_at s.files x)) (sym (ap (λ (v : FileView). v.history) (u.stay x apart))) (goes_same guest (history_at s.files x))) in
       one_blocked guest ranges first from (history_at t.files) (log_at t.map) cs ls c its_line
       (seen_on guest ranges first from (history_at s.files) (history_at t.files) (log_at s.map) (log_at t.map) cs ls goes keeps.map.logs run)
       (record {

@@ -1,7 +1,8 @@
 -- What an answer of a guest tells: its line, with a letter for each range where none could be taken.
 use Rattle.std.proofs.Common.{◌≡◌, ◌≢◌, ◌⊎◌, ⊎_elim, ◌∙◌, ap, sym, refl, subst, inl, inr, ℕ, zero, suc, ◌+◌, ◌<◌, ◌≤◌, ◌^◌, Bool, true, false, true≢false, List, [], ◌∷◌, length, map, get_or, get_or-set_other, slice_set, Option, Some, None, Result, Ok, Err, arith}
-use Rattle.std.specs.Prelude.{IsSome, sum}
+use Rattle.std.specs.Prelude.{IfOk, IsSome, sum}
 use Rattle.std.specs.List.{list_all}
+use Rattle.std.proofs.lemmas.Bool.{ne_eqb}
 use Rattle.std.proofs.lemmas.List.{length-set}
 use mathlib.Core.Logic.{dite}
 use native.Mathlib.Decide.{ℕ_discrete}
@@ -11,6 +12,7 @@ use Rattle.page_map.specs.declared.ranges.RangeWord.{RangeWord}
 use Rattle.page_map.specs.declared.ranges.RangeWord.TheVariants as words
 use Rattle.page_map.specs.Board.{MapView, Noted}
 use Rattle.range_tree.specs.Ranges.{range_count, pins_on, look_at, forgot, IsSoundRanges}
+use Rattle.range_tree.proofs.Whole.{pins-sum}
 use Rattle.transcript_text.specs.declared.transcripts.Line.{Line}
 use Rattle.transcript_text.specs.declared.transcripts.Line.TheVariants as lines
 use Rattle.transcript_text.specs.TranscriptReading.{IsPrintableLine, is_letter, is_letters}
@@ -49,7 +51,7 @@ letters_long (l ∷ looked) = ap suc (letters_long looked)
 all_noted : (n : ℕ) (looks : List (Option Noted)) → ((r : ℕ) → r < length looks → IsSome (get_or looks r None)) → length (looks_from n looks) ≡ length looks
 unfolding looks_from
 all_noted n [] each = refl
-all_noted n (None ∷ rest) each = absurd (each 0 (omega arith))
+all_noted n (None ∷ rest) each = absurd (true≢false (sym (each zero (omega arith))))
 all_noted n (Some a ∷ rest) each = ap suc (all_noted (n + 1) rest (λ r within. each (suc r) (omega arith)))
 
 noted_some : (v now : MapView) (range : ℕ) → IsBlocked v now range → IsSome (look_at now range)
@@ -72,10 +74,8 @@ busy_count old file off len looked new b k sound =
 
 -- ---- a guest alone with its ranges
 
-none_pinned : (xs : List ℕ) (i : ℕ) → sum xs ≡ 0 → get_or xs i 0 ≡ 0
-none_pinned [] i e = refl
-none_pinned (x ∷ xs) zero e = omega (arith, e)
-none_pinned (x ∷ xs) (suc i) e = none_pinned xs i (omega (arith, e))
+none_pinned : (xs : List ℕ) (i : ℕ) → i < length xs → sum xs ≡ 0 → get_or xs i 0 ≡ 0
+none_pinned xs i within e = let most = pins-sum xs i within in omega (arith, most, e)
 
 -- a range without own pins isn't blocked
 unblocked : (v : MapView) (own : ℕ) (word : RangeWord) → v.ranges.others ≡ false → own ≡ 0 → Blocks v own word → ⊥
@@ -83,8 +83,8 @@ unblocked v own words.Free alone none b = b
 unblocked v own (words.Moving guest) alone none b = true≢false (sym b.1 ∙ alone)
 unblocked v own (words.Mapped file chunk mode pins) alone none b = let some = b.0 in let same = b.2 alone in omega arith
 
-pinned_elsewhere : (v : MapView) (range r : ℕ) → sum v.hands.pins ≡ 0 → r ≢ range → pins_on (one_more_pin v range) r ≡ 0
-pinned_elsewhere v range r e else = get_or-set_other v.hands.pins range r (pins_on v range + 1) 0 else ∙ none_pinned v.hands.pins r e
+pinned_elsewhere : (v : MapView) (range r : ℕ) → r < range_count v → sum v.hands.pins ≡ 0 → r ≢ range → pins_on (one_more_pin v range) r ≡ 0
+pinned_elsewhere v range r within e apart = get_or-set_other v.hands.pins range r (pins_on v range + 1) 0 apart ∙ none_pinned v.hands.pins r within e
 
 not_blocked : (v now : MapView) (r : ℕ) → v.ranges.others ≡ false → pins_on v r ≡ 0 → IsBlocked v now r → ⊥
 not_blocked v now r alone none b = unblocked v b.noted.own b.noted.word alone (b.own ∙ none) b.blocks
@@ -93,12 +93,12 @@ pub never_busy : (old : MapView) (file off len : ℕ) (looked : List Look) (new 
 never_busy old file off len looked new a (some, is, how) =
     let two : 1 < range_count old = (let n = a.count in omega (arith, n, some)) in
     ⊎_elim
-    (λ (h : AllBlocked old new × _). not_blocked old new 0 a.alone (none_pinned old.hands.pins 0 a.unpinned) (h.0 0 some))
+    (λ (h : AllBlocked old new × _). not_blocked old new 0 a.alone (none_pinned old.hands.pins 0 some a.unpinned) (h.0 0 some))
     (λ (h : (last_chunk off len ≡ first_chunk off + 1) × ((range : ℕ) × AllBlocked (one_more_pin old range) new) × _).
     let range = h.1.0 in let at = λ (r : ℕ) (within : r < range_count old). h.1.1 r (subst (λ n. r < n) (sym (count_pinned old range)) within) in
     dite (ℕ_discrete 0 range)
-    (λ e. not_blocked (one_more_pin old range) new 1 a.alone (pinned_elsewhere old range 1 a.unpinned (λ k. absurd (omega (arith, e, k)))) (at 1 two))
-    (λ else. not_blocked (one_more_pin old range) new 0 a.alone (pinned_elsewhere old range 0 a.unpinned else) (at 0 some)))
+    (λ e. not_blocked (one_more_pin old range) new 1 a.alone (pinned_elsewhere old range 1 two a.unpinned (λ k. absurd (omega (arith, e, k)))) (at 1 two))
+    (λ apart. not_blocked (one_more_pin old range) new 0 a.alone (pinned_elsewhere old range 0 some a.unpinned apart) (at 0 some)))
     how
 
 -- ---- what is left
@@ -221,11 +221,15 @@ Tells-line s t u n c (Err (refusals.BadReply x)) told keeps sound k h files = ab
 Tells-line s t u n c (Err refusals.WireFault) told keeps sound k h files = absurd k
 
 -- what is told can be printed
-pub printable_line : (s : Stand) (n : ℕ) (c : Call) (l : Line) (u : Stand) → Tells s n c (Ok l) u → HasFields l → IsPrintableLine l
+printable_line : (s : Stand) (n : ℕ) (c : Call) (l : Line) (u : Stand) → Tells s n c (Ok l) u → HasFields l → IsPrintableLine l
 unfolding HasFields IsPrintableLine
 printable_line s n c l u (inl (d, is, made)) fields = rw is (rw is at fields)
 printable_line s n c l u (inr g) fields = rw g.line (some_letters g.letters (let e = g.each in let k = g.some in omega (arith, e, k)) (rw g.line at fields))
   where
     some_letters : (letters : List ℕ) → 0 < length letters → list_all is_letter letters ≡ true → is_letters letters ≡ true
     some_letters [] some all = absurd (omega (arith, some))
-    some_letters (x ∷ xs) some all = all
+    some_letters (x ∷ xs) some all = rw (ne_eqb (length (x ∷ xs)) 0 (λ none. absurd (omega (arith, none)))) all
+
+pub printable_told : (s : Stand) (n : ℕ) (c : Call) (told : Result Line Memory) (u : Stand) → Tells s n c told u → IfOk told HasFields → IfOk told IsPrintableLine
+printable_told s n c (Ok l) u k fields = printable_line s n c l u k fields
+printable_told s n c (Err e) u k fields = tt

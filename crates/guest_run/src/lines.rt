@@ -1,4 +1,4 @@
-ghost use Rattle.std.specs.Prelude.{◌≡◌, ◌<◌, ◌++◌, [], ◌∷◌, length, map, take, IfOk, OnOk};
+ghost use Rattle.std.specs.Prelude.{◌≡◌, ◌<◌, ◌^◌, IfOk};
 ghost use Rattle.std.specs.List.{AllByRecursion};
 ghost use Rattle.range_tree.specs.Ranges.{IsSoundRanges};
 ghost use Rattle.transcript_text.specs.TranscriptReading.{IsPrintableAnswer};
@@ -70,10 +70,14 @@ fn sound_answer(answer: &Answer)
 {
     match answer {
         Answer::Bytes(bytes) => sound_bytes(bytes.as_slice()),
-        Answer::Wrote(_count) => {}
-        Answer::Size(_size) => {}
+        Answer::Wrote(count) => sound_number(*count),
+        Answer::Size(size) => sound_number(*size),
     }
 }
+
+fn sound_number(n: u64)
+    ensures { n < 2 ^ 64 }
+{}
 
 fn sound_bytes(bytes: &[u8])
     ensures { AllByRecursion (λ b. b < 256) bytes.now }

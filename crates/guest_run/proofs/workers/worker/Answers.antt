@@ -1,4 +1,4 @@
-use Rattle.std.proofs.Common.{◌≡◌, ◌∙◌, ap, sym, subst, ℕ, ◌+◌, ◌<◌, List, ◌∷◌, ◌++◌, [], length, take, slice_get, Some, true, inl, inr, ⊎_elim, arith}
+use Rattle.std.proofs.Common.{◌≡◌, ◌∙◌, ap, sym, subst, refl, ℕ, ◌+◌, ◌<◌, List, ◌∷◌, ◌++◌, [], length, take, slice_get, Some, true, inl, inr, ⊎_elim, arith}
 use Rattle.std.proofs.Math.Seq.{take-length}
 use Rattle.std.specs.List.{AllByRecursion}
 use Rattle.page_map.specs.Board.{log_at}
@@ -9,10 +9,33 @@ use Rattle.transcript_text.specs.TranscriptReading.{IsPrintableNumbered}
 use Rattle.guest_dax.specs.Stands.{stand}
 use Rattle.guest_run.specs.Runs.{IsRunFrom}
 use Rattle.guest_run.specs.Working.{IsCall, AllDone, is_done_line, first_at, history_at}
-use Rattle.guest_run.proofs.Places.{at_index, at_end, take_more, take_count, all_push}
+use Rattle.guest_run.proofs.Places.{none_is, at_index, at_end, take_more, take_count, all_push}
 use Rattle.guest_run.proofs.Guests.{begun}
 use Rattle.guest_run.proofs.Stepping.{one_told, done_told, alone_after, LeavesAll-same, LeavesAll-both}
 use Rattle.guest_run.proofs.workers.worker.Goals as goal
+
+pub returns-in_err-with_capacity-clause-leaves : goal.returns-in_err-with_capacity-clause-leaves
+returns-in_err-with_capacity-clause-leaves g c = LeavesAll-same (stand (g.W.Wire.wire c.args.guest.now.dax.driver.wire) (g.F.FileBoard.board c.args.guest.now.dax.files) (g.R.MapBoard.map c.args.guest.now.dax.ranges))
+
+pub loop-call-init : goal.loop-call-init
+loop-call-init g c =
+    let u = stand (g.W.Wire.wire c.args.guest.now.dax.driver.wire) (g.F.FileBoard.board c.args.guest.now.dax.files) (g.R.MapBoard.map c.args.guest.now.dax.ranges) in
+    let none : c.from_vec-lines.result ≡ [] = c.from_vec-lines.ensures ∙ c.in_ok-with_capacity.ensures.items in
+    record {
+      number = refl;
+      idle = c.requires.idle;
+      leaves = LeavesAll-same u;
+      refs = refl;
+      run = subst (λ (ls : List Numbered). IsRunFrom u.files.guest (range_count u.map) (first_at u.files) (λ f. length (history_at u.files f)) (history_at u.files) (log_at u.map) [] ls) (sym none) (begun u.files.guest (range_count u.map) (first_at u.files) (history_at u.files) (log_at u.map));
+      printable = subst (λ (ls : List Numbered). AllByRecursion IsPrintableNumbered ls) (sym none) tt;
+      done = λ alone. subst AllDone (sym none) (λ n l at. absurd (none_is l at));
+    }
+
+pub returns-in_err-line-clause-leaves : goal.returns-in_err-line-clause-leaves
+returns-in_err-line-clause-leaves g c = LeavesAll-both _ _ _ c.loop-call.invariant.leaves c.in_err-line.ensures.leaves
+
+pub returns-in_err-push-clause-leaves : goal.returns-in_err-push-clause-leaves
+returns-in_err-push-clause-leaves g c = LeavesAll-both _ _ _ c.loop-call.invariant.leaves c.in_ok-line.ensures.leaves
 
 pub make_call-requires-clause-call : goal.make_call-requires-clause-call
 make_call-requires-clause-call g c =
