@@ -1,6 +1,6 @@
 -- What is seen of a log after a range was taken from the tree.
-use Rattle.std.proofs.Common.{◌≡◌, ◌∙◌, ap, sym, refl, subst, ℕ, zero, suc, ◌<◌, ◌==◌, Bool, true, false, cond, List, [], ◌∷◌, ◌++◌, length, get_or, slice_set, Option, Some, None, append_assoc, inl, inr, arith}
-use Rattle.std.specs.Prelude.{unwrap_or}
+use Rattle.std.proofs.Common.{◌≡◌, ◌∙◌, ap, sym, refl, subst, ℕ, zero, suc, ◌<◌, ◌==◌, Bool, true, false, cond, List, [], ◌∷◌, ◌++◌, length, get_or, slice_set, Option, Some, None, append_assoc, inl, inr, arith, Result, Ok, Err}
+use Rattle.std.specs.Prelude.{unwrap_or, IfOk}
 use Rattle.std.specs.List.{find}
 use Rattle.std.proofs.lemmas.Bool.{cases_Bool}
 use Rattle.std.proofs.lemmas.List.{append-nil}
@@ -8,10 +8,15 @@ use Rattle.std.proofs.lemmas.Grind.{common_steps}
 use Rattle.page_map.specs.declared.ranges.LogEntry.{LogEntry}
 use Rattle.page_map.specs.declared.ranges.LogEntry.TheVariants as entries
 use Rattle.page_map.specs.Logs.{Slot, is_in, slot_in, slots_of}
-use Rattle.page_map.specs.Board.{MapView, log_at}
+use Rattle.page_map.specs.Board.{MapView, Hands, log_at}
 use Rattle.range_tree.specs.Ranges.{tree_of, tree_slot, slot_at, removal, Enters, IsTaken}
 use Rattle.guest_wire.specs.Keeps.{Begins}
+use Rattle.guest_wire.specs.Wires.{WireView, Boards, Sent}
+use Rattle.guest_wire.specs.declared.wires.WireError.{WireError}
 use Rattle.guest_dax.specs.Reclaims.{EndsRemoved}
+use Rattle.guest_dax.specs.Causes.{IsUnmapped}
+use Rattle.guest_dax.specs.declared.refusals.DaxRefusal.{DaxRefusal}
+use Rattle.guest_dax.specs.Freeing.{IsFreed}
 
 eqb-same : (m n : ℕ) → (m == n) ≡ true → m ≡ n
 eqb-same m n e = grind (arith, common_steps, e)
@@ -80,3 +85,26 @@ EndsRemoved-after u v w file range (more, e) r = record {
 
 pub EndsRemoved-kept : (u v w : MapView) (file range : ℕ) → w.ranges.logs ≡ v.ranges.logs → EndsRemoved u v file range → EndsRemoved u w file range
 EndsRemoved-kept u v w file range logs r = record { more = r.more; grown = ap (λ (ls : List (List LogEntry)). get_or ls file []) logs ∙ r.grown }
+
+-- ---- the request by which it was unmapped
+
+-- the range that was unmapped is the one that is moved
+pub unmapped-moved : {S : Type 0} (wire : S → WireView) (gives : S → Boards → Sent → Result (List ℕ) WireError → S → Boards → Type 0) (before : S) (unique range : ℕ) (after : S) (now : ℕ) (h : Hands) → h.moves ≡ Some range → IsUnmapped wire gives before unique range after now → IsUnmapped wire gives before unique (unwrap_or h.moves 0) after now
+unmapped-moved wire gives before unique range after now h moves u = subst (λ (o : Option ℕ). IsUnmapped wire gives before unique (unwrap_or o 0) after now) (sym moves) u
+
+-- a range was freed by a request
+abbrev pub FreedBy : {S : Type 0} → (S → WireView) → (S → Boards → Sent → Result (List ℕ) WireError → S → Boards → Type 0) → S → ℕ → S → ℕ → MapView → MapView → Type 0
+FreedBy wire gives before unique after now u v = (f : IsFreed u v) × IsUnmapped wire gives before unique f.range after now
+
+pub freed-by : {S : Type 0} (wire : S → WireView) (gives : S → Boards → Sent → Result (List ℕ) WireError → S → Boards → Type 0) (before : S) (unique : ℕ) (after : S) (now : ℕ) (u v : MapView) (file range : ℕ) → file < length u.ranges.logs → EndsRemoved u v file range → IsUnmapped wire gives before unique range after now → FreedBy wire gives before unique after now u v
+freed-by wire gives before unique after now u v file range known removed h = (record { file = file; known = known; range = range; removed = removed }, h)
+
+pub freed-by-later : {S : Type 0} (wire : S → WireView) (gives : S → Boards → Sent → Result (List ℕ) WireError → S → Boards → Type 0) (before : S) (unique : ℕ) (after : S) (now : ℕ) (u v w : MapView) → length v.ranges.logs ≡ length u.ranges.logs → ((file : ℕ) → Begins (log_at u file) (log_at v file)) → FreedBy wire gives before unique after now v w → FreedBy wire gives before unique after now u w
+freed-by-later wire gives before unique after now u v w files logs (f, h) = freed-by wire gives before unique after now u w f.file f.range (subst (λ (n : ℕ). f.file < n) files f.known) (EndsRemoved-after u v w f.file f.range (logs f.file) f.removed) h
+
+pub freed-by-kept : {S : Type 0} (wire : S → WireView) (gives : S → Boards → Sent → Result (List ℕ) WireError → S → Boards → Type 0) (before : S) (unique : ℕ) (after : S) (now : ℕ) (u v w : MapView) → w.ranges.logs ≡ v.ranges.logs → FreedBy wire gives before unique after now u v → FreedBy wire gives before unique after now u w
+freed-by-kept wire gives before unique after now u v w logs (f, h) = freed-by wire gives before unique after now u w f.file f.range f.known (EndsRemoved-kept u v w f.file f.range logs f.removed) h
+
+pub freed-by-later-if : {S : Type 0} (wire : S → WireView) (gives : S → Boards → Sent → Result (List ℕ) WireError → S → Boards → Type 0) (before : S) (unique : ℕ) (after : S) (now : ℕ) (u v w : MapView) (result : Result Bool DaxRefusal) → length v.ranges.logs ≡ length u.ranges.logs → ((file : ℕ) → Begins (log_at u file) (log_at v file)) → IfOk result (λ freed. freed ≡ true → FreedBy wire gives before unique after now v w) → IfOk result (λ freed. freed ≡ true → FreedBy wire gives before unique after now u w)
+freed-by-later-if wire gives before unique after now u v w (Ok b) files logs h = λ freed. freed-by-later wire gives before unique after now u v w files logs (h freed)
+freed-by-later-if wire gives before unique after now u v w (Err e) files logs h = tt

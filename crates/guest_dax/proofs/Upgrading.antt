@@ -1,6 +1,6 @@
 -- What a board lets be set, upgrades, and places.
 use Rattle.std.proofs.Common.{◌≡◌, ◌∙◌, ap, sym, refl, subst, ℕ, ◌+◌, ◌*◌, ◌<◌, ◌==◌, Bool, true, false, List, [], ◌∷◌, ◌++◌, zero, suc, length, map, get_or, slice_set, Option, None, Some, Result, Ok, Err, arith}
-use Rattle.std.specs.Prelude.{IsSome, unwrap_or}
+use Rattle.std.specs.Prelude.{IsSome, IfOk, unwrap_or}
 use Rattle.std.specs.List.{list_any, find}
 use Rattle.std.proofs.lemmas.Grind.{common_steps}
 use Rattle.page_map.specs.declared.pages.Mode.{Mode}
@@ -11,12 +11,14 @@ use Rattle.page_map.specs.declared.ranges.Placed.{Placed}
 use Rattle.page_map.specs.Logs.{Slot, is_in, is_of, upgraded, next_slots, slots_from, slots_of, slot_in, placed_of, placed_at, is_writable}
 use Rattle.std.specs.Option.{option_map}
 use Rattle.page_map.specs.Board.{MapView, Hands, may_set, is_moved, is_range, is_at_chunk, is_chunk_of, placed_in, chunk_in, log_at}
-use Rattle.range_tree.specs.Ranges.{Enters, is_enough, tree_of, upgraded_in, upgrade_of, with_more, CanSettle, IsMapped, IsRaisable, settled, moved_of, Becomes, Settles, IsSettled}
+use Rattle.range_tree.specs.Ranges.{Enters, is_enough, tree_of, upgraded_in, upgrade_of, with_more, CanSettle, IsMapped, IsRaisable, settled, moved_of, Becomes, Settles, IsSettled, Leaves}
 use Rattle.page_map.specs.Window.{range_size}
 use Rattle.plain_file.specs.declared.refusals.Memory.{Memory}
 use Rattle.guest_dax.specs.Stands.{Stand, KeepsMap, chunk_span}
-use Rattle.guest_dax.specs.Pinning.{MapsRest, IsEnoughPlaced, IsReadOnly, IsSomeReadOnly, UpgradesChunk, MakesEnough}
+use Rattle.guest_dax.specs.Pinning.{MapsRest, IsEnoughPlaced, IsPlacedIn, IsPlacedMoved, IsThrough, IsReadOnly, IsSomeReadOnly, UpgradesChunk, MakesEnough}
+use Rattle.guest_dax.specs.declared.pins.Pinned.{Pinned}
 use Rattle.guest_dax.specs.declared.refusals.DaxRefusal.{DaxRefusal}
+use Rattle.guest_wire.specs.Keeps.{Begins}
 use Rattle.guest_dax.proofs.Keeping.{KeepsMap-same, Begins-log, length-log, KeepsMap-more}
 use Rattle.guest_dax.proofs.Searching.{had-tree}
 use Rattle.guest_dax.proofs.PinLaws.{tree-of}
@@ -245,3 +247,40 @@ filled v file chunk range mode w place x rest tree within free h =
       some-placed (placed_at (log_at x file) chunk) p e,
       enough-is mode (placed_at (log_at x file) chunk) p e refl,
     )
+
+pub some-found : (v : MapView) (file chunk : ℕ) (found : Option Placed) → v.hands.tree ≡ Some file → found ≡ placed_at (log_at v (tree_of v)) chunk → IsSome (placed_at (log_at v file) chunk) → IsSome found
+some-found v file chunk found tree is some = subst (λ (o : Option Placed). IsSome o) (sym (found-at v file chunk found tree is)) some
+
+-- the log has the placement at its end
+pub filled-log : (v : MapView) (file chunk : ℕ) (mode : Mode) (w : MapView) (place : ℕ) (x : MapView) → MapsRest v w → v.hands.tree ≡ Some file → file < length v.ranges.logs → IsSettled w chunk mode place x → log_at x file ≡ log_at v file ++ entries.Place chunk (moved_of v) mode ∷ []
+filled-log v file chunk mode w place x rest tree within h =
+    let t : tree_of w ≡ file = tree-of w file (ap (λ (k : Hands). k.tree) rest.hands ∙ tree) in
+    let more : List LogEntry = entries.Place chunk (moved_of w) mode ∷ [] in
+    ap (λ (m : MapView). log_at m file) h.becomes.rest ∙ ap (λ f. get_or (slice_set w.ranges.logs f (log_at w f ++ more)) file []) t
+    ∙ log-here w.ranges.logs file (log_at w file ++ more) (subst (λ (ls : List (List LogEntry)). file < length ls) (sym rest.logs) within)
+    ∙ ap (λ (ls : List (List LogEntry)). get_or ls file [] ++ more) rest.logs
+    ∙ ap (λ (k : Hands). log_at v file ++ entries.Place chunk (unwrap_or k.moves 0) mode ∷ []) rest.hands
+
+pub placed-in : (old mid new : List LogEntry) (chunk range : ℕ) (mode : Mode) (p : Pinned) → placed_at old chunk ≡ None → mid ≡ old ++ entries.Place chunk range mode ∷ [] → new ≡ mid → IsThrough mid chunk p → p.through.upto ≡ length new → IsPlacedIn old chunk range mode p new
+placed-in old mid new chunk range mode p none grown same through upto =
+    let first : Placed = record { range = range; mode = mode; entry = length old } in
+    let second : Placed = record { range = p.range; mode = through.mode; entry = p.through.entry } in
+    let both : Some first ≡ Some second = sym (placed-last old chunk range mode none) ∙ ap (λ (l : List LogEntry). placed_at l chunk) (sym grown) ∙ through.placed in
+    let is : second ≡ first = cc in
+    record { grown = same ∙ grown; in_range = ap (λ (q : Placed). q.range) is; entry = ap (λ (q : Placed). q.entry) is; upto = upto }
+
+-- the same from before the tree was entered until after it was left
+pub placed-moved : (v w x y : MapView) (file chunk : ℕ) (mode : Mode) (result : Result Pinned DaxRefusal) → Enters v file w → file < length v.ranges.logs → KeepsMap w x → Leaves x y → (placed_at (log_at w file) chunk ≡ None → IfOk result (λ p. IsPlacedIn (log_at w file) chunk (moved_of w) mode p (log_at x file))) → IfOk result (λ p. IsPlacedMoved v y file chunk mode p)
+placed-moved v w x y file chunk mode (Ok p) enters within keeps leaves placed =
+    let seen : log_at w file ≡ log_at v file ++ enters.more = ap (λ (m : MapView). log_at m file) enters.becomes.rest ∙ log-here v.ranges.logs file (log_at v file ++ enters.more) within in
+    let moved : moved_of w ≡ moved_of v = ap (λ (m : MapView). moved_of m) enters.becomes.rest in
+    let after : log_at y file ≡ log_at x file = ap (λ (m : MapView). log_at m file) leaves.rest in
+    record {
+      more = enters.more;
+      alone = enters.alone;
+      seen = subst (λ (l : List LogEntry). Begins l (log_at y file)) seen (subst (λ (l : List LogEntry). Begins (log_at w file) l) (sym after) (keeps.logs file));
+      placed = λ none. subst (λ (l : List LogEntry). IsPlacedIn l chunk (moved_of v) mode p (log_at y file)) seen (
+          subst (λ (n : ℕ). IsPlacedIn (log_at w file) chunk n mode p (log_at y file)) moved (
+          subst (λ (l : List LogEntry). IsPlacedIn (log_at w file) chunk (moved_of w) mode p l) (sym after) (placed (ap (λ (l : List LogEntry). placed_at l chunk) seen ∙ none))));
+    }
+placed-moved v w x y file chunk mode (Err e) enters within keeps leaves placed = tt

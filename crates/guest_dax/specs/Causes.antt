@@ -5,7 +5,7 @@ use Rattle.fuse_codec.specs.declared.messages.Request.{Request}
 use Rattle.fuse_codec.specs.declared.replies.Reply.{Reply}
 use Rattle.fuse_codec.specs.declared.replies.Reply.TheVariants as replies
 use Rattle.guest_wire.specs.Wires.{WireView, Boards, Sent}
-use Rattle.guest_wire.specs.Requests.{message, next_number}
+use Rattle.guest_wire.specs.Requests.{message, next_number, remove_request}
 use Rattle.guest_wire.specs.Answers.{Answers}
 use Rattle.guest_wire.specs.declared.wires.WireError.{WireError}
 use Rattle.guest_wire.specs.declared.wires.WireRefusal.{WireRefusal}
@@ -30,6 +30,15 @@ pub record IsAnswered {S : Type 0} (wire : S → WireView) (gives : S → Boards
 pub record IsReplied {S : Type 0} (wire : S → WireView) (gives : S → Boards → Sent → Result (List ℕ) WireError → S → Boards → Type 0) (before : S) (unique : ℕ) (bytes : List ℕ) (after : S) (now : ℕ) : Type 0 where
   pub answered : IsAnswered wire gives before unique (Ok tt) after now
   pub bytes_are : bytes ≡ clean_reply now replies.Done
+
+-- REMOVEMAPPING of this range was sent, and it succeeded
+pub record IsUnmapped {S : Type 0} (wire : S → WireView) (gives : S → Boards → Sent → Result (List ℕ) WireError → S → Boards → Type 0) (before : S) (unique range : ℕ) (after : S) (now : ℕ) : Type 0 where
+  pub answered : IsAnswered wire gives before unique (Ok tt) after now
+  pub body_is : answered.body ≡ remove_request range
+
+-- a range was taken free, and nothing was sent; or it was unmapped by one request
+abbrev pub IsUnmappedOrFree : {S : Type 0} → (S → WireView) → (S → Boards → Sent → Result (List ℕ) WireError → S → Boards → Type 0) → S → ℕ → ℕ → S → ℕ → Type 0
+IsUnmappedOrFree wire gives before unique range after now = ((after ≡ before) × (now ≡ unique)) ⊎ IsUnmapped wire gives before unique range after now
 
 -- A call of one request at most was refused by what came of its request. `Busy` sends none, and of want of memory nothing is said.
 abbrev pub IsCause : {S : Type 0} → (S → WireView) → (S → Boards → Sent → Result (List ℕ) WireError → S → Boards → Type 0) → S → ℕ → DaxRefusal → S → ℕ → Type 0

@@ -1,5 +1,5 @@
 -- A pin on a chunk of a file: where it goes through, and what it leaves.
-use Rattle.std.specs.Prelude.{◌≡◌, ℕ, ◌+◌, ◌<◌, true, List, [], ◌∷◌, ◌++◌, length, slice_set, Option, Some, None, IsSome, Result, Ok, Err}
+use Rattle.std.specs.Prelude.{◌≡◌, ℕ, ◌+◌, ◌<◌, true, false, List, [], ◌∷◌, ◌++◌, length, slice_set, Option, Some, None, IsSome, Result, Ok, Err}
 use Rattle.page_map.specs.declared.pages.Mode.{Mode}
 use Rattle.page_map.specs.declared.pages.Mode.TheVariants as modes
 use Rattle.page_map.specs.declared.ranges.LogEntry.{LogEntry}
@@ -8,7 +8,8 @@ use Rattle.page_map.specs.declared.ranges.Placed.{Placed}
 use Rattle.page_map.specs.Board.{MapView, Hands, log_at}
 use Rattle.page_map.specs.Logs.{is_writable, placed_at}
 use Rattle.range_tree.specs.Logs.{is_live}
-use Rattle.range_tree.specs.Ranges.{range_count, pins_on, pinned_in, with_pin, is_enough, IsAtLeast, IsMapped}
+use Rattle.guest_wire.specs.Keeps.{Begins}
+use Rattle.range_tree.specs.Ranges.{range_count, moved_of, pins_on, pinned_in, with_pin, is_enough, IsAtLeast, IsMapped}
 use Rattle.guest_dax.specs.Stands.{Stand, KeepsMap}
 use Rattle.guest_dax.specs.Reclaims.{Caused}
 use Rattle.guest_dax.specs.declared.pins.Pinned.{Pinned}
@@ -101,3 +102,22 @@ MakesEnough old file chunk mode (Err e) new = (new.map.hands ≡ old.map.hands) 
 abbrev pub Fills : Stand → ℕ → ℕ → Mode → Result (Unit {0}) DaxRefusal → Stand → Type 0
 Fills old file chunk mode (Ok u) new = (new.map.hands ≡ record old.map.hands { moves = None }) × IsSome (placed_at (log_at new.map file) chunk) × IsEnoughPlaced mode (placed_at (log_at new.map file) chunk)
 Fills old file chunk mode (Err e) new = (new.map.hands ≡ old.map.hands) × Caused old e new
+
+-- a pin goes through the placement of a chunk at the end of a log, in its range
+pub record IsThrough (log : List LogEntry) (chunk : ℕ) (p : Pinned) : Type 0 where
+  pub mode : Mode
+  pub placed : placed_at log chunk ≡ Some (record { range = p.range; mode = mode; entry = p.through.entry })
+
+-- a placement of a chunk in a range was added to a log, and a pin goes through it
+pub record IsPlacedIn (log : List LogEntry) (chunk range : ℕ) (mode : Mode) (p : Pinned) (now : List LogEntry) : Type 0 where
+  pub grown : now ≡ log ++ entries.Place chunk range mode ∷ []
+  pub in_range : p.range ≡ range
+  pub entry : p.through.entry ≡ length log
+  pub upto : p.through.upto ≡ length now
+
+-- What was seen of a file's log when its tree was entered. Where the chunk wasn't placed there, it was placed in the range that was moved.
+pub record IsPlacedMoved (old new : MapView) (file chunk : ℕ) (mode : Mode) (p : Pinned) : Type 0 where
+  pub more : List LogEntry
+  pub alone : old.ranges.others ≡ false → more ≡ []
+  pub seen : Begins (log_at old file ++ more) (log_at new file)
+  pub placed : placed_at (log_at old file ++ more) chunk ≡ None → IsPlacedIn (log_at old file ++ more) chunk (moved_of old) mode p (log_at new file)

@@ -1,10 +1,10 @@
 ghost use Rattle.std.specs.Prelude.{◌≡◌, ◌<◌, ◌≤◌, ℕ, true, false, None, IfOk, IfErr, OnOk, ◌++◌};
 ghost use Rattle.page_map.specs.Board.{Hands, MapView};
-ghost use Rattle.range_tree.specs.Ranges.{range_count};
+ghost use Rattle.range_tree.specs.Ranges.{range_count, moved_of};
 ghost use Rattle.guest_dax.specs.Stands.{stand, Stands, Keeps, KeepsMap};
 ghost use Rattle.guest_dax.specs.Looks.{SomeUnblocked, NoLooks, looks_from, look_of};
 ghost use Rattle.guest_dax.specs.Reclaims.{Walks, Goes, ComesAt, FirstRound, SecondRound, Forgets, IsBusy, Acquires};
-ghost use Rattle.guest_dax.specs.Causes.{IsCause};
+ghost use Rattle.guest_dax.specs.Causes.{IsCause, IsUnmappedOrFree};
 
 use crate::attempts::{Attempt, try_free, try_range};
 use crate::dax::Dax;
@@ -78,6 +78,7 @@ where
         ensures walks { Walks (stand (W.wire self.old.driver.wire) (F.board self.old.files) (R.map self.old.ranges)) (stand (W.wire self.new.driver.wire) (F.board self.new.files) (R.map self.new.ranges)) }
         ensures comes { ComesAt (stand (W.wire self.old.driver.wire) (F.board self.old.files) (R.map self.old.ranges)) range result (stand (W.wire self.new.driver.wire) (F.board self.new.files) (R.map self.new.ranges)) }
         ensures cause { IfErr result (λ e. IsCause W.wire W.gives self.old.driver.wire self.old.driver.unique e self.new.driver.wire self.new.driver.unique) }
+        ensures removed { IfOk result (λ took. took ≡ true → IsUnmappedOrFree W.wire W.gives self.old.driver.wire self.old.driver.unique (moved_of (R.map self.new.ranges)) self.new.driver.wire self.new.driver.unique) }
         ensures quiet { IfOk result (λ took. took ≡ false → self.new.driver ≡ self.old.driver) }
         ensures refs { self.new.refs ≡ self.old.refs }
     {
@@ -112,6 +113,7 @@ where
         ensures walks { Walks (stand (W.wire self.old.driver.wire) (F.board self.old.files) (R.map self.old.ranges)) (stand (W.wire self.new.driver.wire) (F.board self.new.files) (R.map self.new.ranges)) }
         ensures goes { Goes (stand (W.wire self.old.driver.wire) (F.board self.old.files) (R.map self.old.ranges)) from to result (stand (W.wire self.new.driver.wire) (F.board self.new.files) (R.map self.new.ranges)) }
         ensures cause { IfErr result (λ e. IsCause W.wire W.gives self.old.driver.wire self.old.driver.unique e self.new.driver.wire self.new.driver.unique) }
+        ensures removed { IfOk result (λ took. took ≡ true → IsUnmappedOrFree W.wire W.gives self.old.driver.wire self.old.driver.unique (moved_of (R.map self.new.ranges)) self.new.driver.wire self.new.driver.unique) }
         ensures quiet { IfOk result (λ took. took ≡ false → self.new.driver ≡ self.old.driver) }
         ensures refs { self.new.refs ≡ self.old.refs }
     {
@@ -131,6 +133,7 @@ where
         ensures walks { Walks (stand (W.wire self.old.driver.wire) (F.board self.old.files) (R.map self.old.ranges)) (stand (W.wire self.new.driver.wire) (F.board self.new.files) (R.map self.new.ranges)) }
         ensures round { SecondRound (stand (W.wire self.old.driver.wire) (F.board self.old.files) (R.map self.old.ranges)) result (stand (W.wire self.new.driver.wire) (F.board self.new.files) (R.map self.new.ranges)) }
         ensures cause { IfErr result (λ e. IsCause W.wire W.gives self.old.driver.wire self.old.driver.unique e self.new.driver.wire self.new.driver.unique) }
+        ensures removed { IfOk result (λ took. took ≡ true → IsUnmappedOrFree W.wire W.gives self.old.driver.wire self.old.driver.unique (moved_of (R.map self.new.ranges)) self.new.driver.wire self.new.driver.unique) }
         ensures quiet { IfOk result (λ took. took ≡ false → self.new.driver ≡ self.old.driver) }
         ensures refs { self.new.refs ≡ self.old.refs }
     {
@@ -143,7 +146,8 @@ where
     }
 
     /// Moves one range that this board has no pin on: one that is free, or else one that is mapped without
-    /// pins. No look is noted afterwards, but after `Busy`.
+    /// pins. A range that was mapped is unmapped by REMOVEMAPPING, the one request that this may send. No
+    /// look is noted afterwards, but after `Busy`.
     ///
     /// # Errors
     ///
@@ -160,6 +164,7 @@ where
         ensures keeps { Keeps (stand (W.wire self.old.driver.wire) (F.board self.old.files) (R.map self.old.ranges)) (stand (W.wire self.new.driver.wire) (F.board self.new.files) (R.map self.new.ranges)) }
         ensures acquires { Acquires (stand (W.wire self.old.driver.wire) (F.board self.old.files) (R.map self.old.ranges)) result (stand (W.wire self.new.driver.wire) (F.board self.new.files) (R.map self.new.ranges)) }
         ensures cause { IfErr result (λ e. IsCause W.wire W.gives self.old.driver.wire self.old.driver.unique e self.new.driver.wire self.new.driver.unique) }
+        ensures removed { IfOk result (λ u. IsUnmappedOrFree W.wire W.gives self.old.driver.wire self.old.driver.unique (moved_of (R.map self.new.ranges)) self.new.driver.wire self.new.driver.unique) }
         ensures refs { self.new.refs ≡ self.old.refs }
     {
         if first_round(&mut self.ranges) {

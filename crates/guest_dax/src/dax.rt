@@ -5,6 +5,7 @@ use plain_file::List;
 
 /// A guest's ranges: its client, its board of files, its board of ranges, and a reference to each file of
 /// the boards, in their order.
+#[derive(Drop)]
 pub struct Dax<W, F, R> {
     /// The client.
     pub driver: Driver<W>,

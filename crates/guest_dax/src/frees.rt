@@ -4,8 +4,8 @@ ghost use Rattle.range_tree.specs.Ranges.{range_count};
 ghost use Rattle.guest_dax.specs.Stands.{stand, Stands, Keeps};
 ghost use Rattle.guest_dax.specs.Looks.{NoLooks};
 ghost use Rattle.guest_dax.specs.Reclaims.{Walks};
-ghost use Rattle.guest_dax.specs.Freeing.{Tried, FreesAt, FreesIn, FreesOne, Reclaims};
-ghost use Rattle.guest_dax.specs.Causes.{IsCause};
+ghost use Rattle.guest_dax.specs.Freeing.{Tried, IsFreed, FreesAt, FreesIn, FreesOne, Reclaims};
+ghost use Rattle.guest_dax.specs.Causes.{IsCause, IsUnmapped};
 
 use crate::acquires::forget;
 use crate::attempts::{Attempt, refused, take_mapped};
@@ -49,6 +49,7 @@ where
         ensures walks { Walks (stand (W.wire self.old.driver.wire) (F.board self.old.files) (R.map self.old.ranges)) (stand (W.wire self.new.driver.wire) (F.board self.new.files) (R.map self.new.ranges)) }
         ensures frees { FreesAt (stand (W.wire self.old.driver.wire) (F.board self.old.files) (R.map self.old.ranges)) range result (stand (W.wire self.new.driver.wire) (F.board self.new.files) (R.map self.new.ranges)) }
         ensures cause { IfErr result (λ e. IsCause W.wire W.gives self.old.driver.wire self.old.driver.unique e self.new.driver.wire self.new.driver.unique) }
+        ensures removed { IfOk result (λ freed. freed ≡ true → (f : IsFreed (R.map self.old.ranges) (R.map self.new.ranges)) × IsUnmapped W.wire W.gives self.old.driver.wire self.old.driver.unique f.range self.new.driver.wire self.new.driver.unique) }
         ensures quiet { IfOk result (λ freed. freed ≡ false → self.new.driver ≡ self.old.driver) }
         ensures refs { self.new.refs ≡ self.old.refs }
     {
@@ -85,6 +86,7 @@ where
         ensures walks { Walks (stand (W.wire self.old.driver.wire) (F.board self.old.files) (R.map self.old.ranges)) (stand (W.wire self.new.driver.wire) (F.board self.new.files) (R.map self.new.ranges)) }
         ensures frees { FreesIn (stand (W.wire self.old.driver.wire) (F.board self.old.files) (R.map self.old.ranges)) from to result (stand (W.wire self.new.driver.wire) (F.board self.new.files) (R.map self.new.ranges)) }
         ensures cause { IfErr result (λ e. IsCause W.wire W.gives self.old.driver.wire self.old.driver.unique e self.new.driver.wire self.new.driver.unique) }
+        ensures removed { IfOk result (λ freed. freed ≡ true → (f : IsFreed (R.map self.old.ranges) (R.map self.new.ranges)) × IsUnmapped W.wire W.gives self.old.driver.wire self.old.driver.unique f.range self.new.driver.wire self.new.driver.unique) }
         ensures quiet { IfOk result (λ freed. freed ≡ false → self.new.driver ≡ self.old.driver) }
         ensures refs { self.new.refs ≡ self.old.refs }
     {
@@ -104,6 +106,7 @@ where
         ensures walks { Walks (stand (W.wire self.old.driver.wire) (F.board self.old.files) (R.map self.old.ranges)) (stand (W.wire self.new.driver.wire) (F.board self.new.files) (R.map self.new.ranges)) }
         ensures round { FreesOne (stand (W.wire self.old.driver.wire) (F.board self.old.files) (R.map self.old.ranges)) result (stand (W.wire self.new.driver.wire) (F.board self.new.files) (R.map self.new.ranges)) }
         ensures cause { IfErr result (λ e. IsCause W.wire W.gives self.old.driver.wire self.old.driver.unique e self.new.driver.wire self.new.driver.unique) }
+        ensures removed { IfOk result (λ freed. freed ≡ true → (f : IsFreed (R.map self.old.ranges) (R.map self.new.ranges)) × IsUnmapped W.wire W.gives self.old.driver.wire self.old.driver.unique f.range self.new.driver.wire self.new.driver.unique) }
         ensures quiet { IfOk result (λ freed. freed ≡ false → self.new.driver ≡ self.old.driver) }
         ensures refs { self.new.refs ≡ self.old.refs }
     {
@@ -115,8 +118,8 @@ where
         self.free_walk(rt, alloc, 0, start)
     }
 
-    /// Frees one range that is mapped without pins: what is seen of its file's log ends with its removal
-    /// then. `false` comes exactly where it took none: one look per range is noted then, each of which shows
+    /// Frees one range that is mapped without pins, by REMOVEMAPPING: what is seen of its file's log ends
+    /// with its removal then. `false` comes exactly where it took none: one look per range is noted then, each of which shows
     /// a range that is free, moving by another guest, or pinned. After every other answer no look is noted.
     ///
     /// # Errors
@@ -132,6 +135,7 @@ where
         ensures rounds { (R.map self.new.ranges).ranges.rounds ≡ (R.map self.old.ranges).ranges.rounds }
         ensures later { (R.map self.old.ranges).ranges.sweeps ≤ 2 ^ 64 - 1 → (R.map self.old.ranges).ranges.sweeps ≤ (R.map self.new.ranges).ranges.sweeps }
         ensures cause { IfErr result (λ e. IsCause W.wire W.gives self.old.driver.wire self.old.driver.unique e self.new.driver.wire self.new.driver.unique) }
+        ensures removed { IfOk result (λ freed. freed ≡ true → (f : IsFreed (R.map self.old.ranges) (R.map self.new.ranges)) × IsUnmapped W.wire W.gives self.old.driver.wire self.old.driver.unique f.range self.new.driver.wire self.new.driver.unique) }
         ensures quiet { IfOk result (λ freed. freed ≡ false → self.new.driver ≡ self.old.driver) }
         ensures refs { self.new.refs ≡ self.old.refs }
     {

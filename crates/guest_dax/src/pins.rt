@@ -1,7 +1,7 @@
 ghost use Rattle.std.specs.Prelude.{◌≡◌, ◌<◌, true, false, None, Some, IsSome, IfErr, length, sum};
 ghost use Rattle.page_map.specs.Board.{Hands, MapView, log_at};
 ghost use Rattle.page_map.specs.Logs.{placed_at};
-ghost use Rattle.guest_dax.specs.Pinning.{PinsFound, IsEnoughPlaced, Needs};
+ghost use Rattle.guest_dax.specs.Pinning.{PinsFound, IsThrough, IsEnoughPlaced, Needs};
 
 use page_map::{Mode, Placed};
 use plain_file::Through;
@@ -43,6 +43,34 @@ pub(crate) fn pin_found<R: RangeBoard>(
                 },
             })
         }
+    }
+}
+
+// Pins the range of a chunk that was settled in the tree just now, with a mode that is enough.
+pub(crate) fn pin_settled<R: RangeBoard>(
+    ranges: &mut R,
+    file: u32,
+    chunk: u32,
+    mode: Mode,
+) -> Pinned
+    requires may { (R.map ranges.old).ranges.may_take ≡ true }
+    requires tree { (R.map ranges.old).hands.tree ≡ Some file }
+    requires few { sum (R.map ranges.old).hands.pins < 64 }
+    requires enough { IsEnoughPlaced mode (placed_at (log_at (R.map ranges.old) file) chunk) }
+    requires placed { IsSome (placed_at (log_at (R.map ranges.old) file) chunk) }
+    ensures pins { PinsFound (R.map ranges.old) file chunk mode (Some result) (R.map ranges.new) }
+    ensures through { IsThrough (log_at (R.map ranges.old) file) chunk result }
+{
+    ranges.sound_ranges();
+    let upto = ranges.log_len();
+    let placed = ranges.find(chunk).unwrap();
+    ranges.pin(placed.range);
+    Pinned {
+        range: placed.range,
+        through: Through {
+            entry: placed.entry,
+            upto,
+        },
     }
 }
 

@@ -1,12 +1,14 @@
-ghost use Rattle.std.specs.Prelude.{◌≡◌, ◌<◌, ℕ, false, None, Some, IsSome, IfErr, length, sum};
+ghost use Rattle.std.specs.Prelude.{◌≡◌, ◌<◌, ◌++◌, [], ◌∷◌, ℕ, false, None, Some, IsSome, IfOk, OnOk, IfErr, length, sum};
 ghost use Rattle.page_map.specs.Board.{Hands, MapView, log_at};
 ghost use Rattle.page_map.specs.Logs.{placed_at};
+ghost use Rattle.page_map.specs.declared.ranges.LogEntry.TheVariants as entries;
+ghost use Rattle.range_tree.specs.Ranges.{moved_of};
 ghost use Rattle.guest_dax.specs.Stands.{stand, Stands, Keeps};
-ghost use Rattle.guest_dax.specs.Pinning.{PinsChunk, PinsPlaced, Places, IsEnoughPlaced, Fills};
+ghost use Rattle.guest_dax.specs.Pinning.{PinsChunk, PinsPlaced, Places, IsEnoughPlaced, IsPlacedIn, IsPlacedMoved, Fills};
 ghost use Rattle.guest_dax.specs.Causes.{IsCause};
 
 use crate::dax::Dax;
-use crate::pins::{Pinned, pin_found};
+use crate::pins::{Pinned, pin_found, pin_settled};
 use crate::refusals::DaxRefusal;
 use guest_wire::Wire;
 use page_map::Mode;
@@ -85,7 +87,8 @@ where
     /// Puts a chunk of a file into the range that is moved, and pins it there: enters the file's tree, maps
     /// the range by SETUPMAPPING, settles it, pins it, and leaves. Where the chunk was placed meanwhile, the
     /// moved range is settled free instead, and the placed one is pinned as [`pin_chunk`](Dax::pin_chunk)
-    /// does it. It notes no look.
+    /// does it. Else the log has one entry more at its end, the chunk's placement in the range that was
+    /// moved, and the pin goes through it. It notes no look.
     ///
     /// # Errors
     ///
@@ -109,6 +112,7 @@ where
         requires few { sum (R.map self.old.ranges).hands.pins < 64 }
         ensures keeps { Keeps (stand (W.wire self.old.driver.wire) (F.board self.old.files) (R.map self.old.ranges)) (stand (W.wire self.new.driver.wire) (F.board self.new.files) (R.map self.new.ranges)) }
         ensures places { Places (stand (W.wire self.old.driver.wire) (F.board self.old.files) (R.map self.old.ranges)) file chunk mode result (stand (W.wire self.new.driver.wire) (F.board self.new.files) (R.map self.new.ranges)) }
+        ensures placed { IfOk result (λ p. IsPlacedMoved (R.map self.old.ranges) (R.map self.new.ranges) file chunk mode p) }
         ensures cause { IfErr result (λ e. IsCause W.wire W.gives self.old.driver.wire self.old.driver.unique e self.new.driver.wire self.new.driver.unique) }
         ensures looks { (R.map self.new.ranges).ranges.looks ≡ (R.map self.old.ranges).ranges.looks }
         ensures rounds { (R.map self.new.ranges).ranges.rounds ≡ (R.map self.old.ranges).ranges.rounds }
@@ -137,6 +141,7 @@ where
         requires few { sum (R.map self.old.ranges).hands.pins < 64 }
         ensures keeps { Keeps (stand (W.wire self.old.driver.wire) (F.board self.old.files) (R.map self.old.ranges)) (stand (W.wire self.new.driver.wire) (F.board self.new.files) (R.map self.new.ranges)) }
         ensures places { Places (stand (W.wire self.old.driver.wire) (F.board self.old.files) (R.map self.old.ranges)) file chunk mode result (stand (W.wire self.new.driver.wire) (F.board self.new.files) (R.map self.new.ranges)) }
+        ensures placed { placed_at (log_at (R.map self.old.ranges) file) chunk ≡ None → IfOk result (λ p. IsPlacedIn (log_at (R.map self.old.ranges) file) chunk (moved_of (R.map self.old.ranges)) mode p (log_at (R.map self.new.ranges) file)) }
         ensures cause { IfErr result (λ e. IsCause W.wire W.gives self.old.driver.wire self.old.driver.unique e self.new.driver.wire self.new.driver.unique) }
         ensures looks { (R.map self.new.ranges).ranges.looks ≡ (R.map self.old.ranges).ranges.looks }
         ensures rounds { (R.map self.new.ranges).ranges.rounds ≡ (R.map self.old.ranges).ranges.rounds }
@@ -146,7 +151,7 @@ where
             return self.use_placed(rt, alloc, file, chunk, mode);
         }
         match self.fill_range(rt, alloc, file, chunk, mode) {
-            Ok(()) => Ok(pin_found(&mut self.ranges, file, chunk, mode).unwrap()),
+            Ok(()) => Ok(pin_settled(&mut self.ranges, file, chunk, mode)),
             Err(refusal) => {
                 self.ranges.settle_free();
                 Err(refusal)
@@ -202,6 +207,7 @@ where
         requires free { placed_at (log_at (R.map self.old.ranges) file) chunk ≡ None }
         ensures keeps { Keeps (stand (W.wire self.old.driver.wire) (F.board self.old.files) (R.map self.old.ranges)) (stand (W.wire self.new.driver.wire) (F.board self.new.files) (R.map self.new.ranges)) }
         ensures fills { Fills (stand (W.wire self.old.driver.wire) (F.board self.old.files) (R.map self.old.ranges)) file chunk mode result (stand (W.wire self.new.driver.wire) (F.board self.new.files) (R.map self.new.ranges)) }
+        ensures grown { OnOk result (log_at (R.map self.new.ranges) file ≡ log_at (R.map self.old.ranges) file ++ entries.Place chunk (moved_of (R.map self.old.ranges)) mode ∷ []) }
         ensures cause { IfErr result (λ e. IsCause W.wire W.gives self.old.driver.wire self.old.driver.unique e self.new.driver.wire self.new.driver.unique) }
         ensures looks { (R.map self.new.ranges).ranges.looks ≡ (R.map self.old.ranges).ranges.looks }
         ensures rounds { (R.map self.new.ranges).ranges.rounds ≡ (R.map self.old.ranges).ranges.rounds }

@@ -1,9 +1,9 @@
-ghost use Rattle.std.specs.Prelude.{◌≡◌, ◌<◌, ℕ, None, Some, IfErr, length};
+ghost use Rattle.std.specs.Prelude.{◌≡◌, ◌<◌, ℕ, None, Some, IfOk, IfErr, length};
 ghost use Rattle.page_map.specs.Board.{Hands, known_files};
 ghost use Rattle.range_tree.specs.Ranges.{range_count};
 ghost use Rattle.guest_dax.specs.Stands.{stand, Stands, Keeps, ref_at};
 ghost use Rattle.guest_dax.specs.Reclaims.{Walks, Unmaps, IsRefusalOf};
-ghost use Rattle.guest_dax.specs.Causes.{IsCause};
+ghost use Rattle.guest_dax.specs.Causes.{IsCause, IsUnmapped};
 
 use crate::dax::Dax;
 use crate::refusals::DaxRefusal;
@@ -54,6 +54,7 @@ where
         ensures walks { Walks (stand (W.wire self.old.driver.wire) (F.board self.old.files) (R.map self.old.ranges)) (stand (W.wire self.new.driver.wire) (F.board self.new.files) (R.map self.new.ranges)) }
         ensures unmaps { Unmaps (stand (W.wire self.old.driver.wire) (F.board self.old.files) (R.map self.old.ranges)) result (stand (W.wire self.new.driver.wire) (F.board self.new.files) (R.map self.new.ranges)) }
         ensures cause { IfErr result (λ e. IsCause W.wire W.gives self.old.driver.wire self.old.driver.unique e self.new.driver.wire self.new.driver.unique) }
+        ensures removed { IfOk result (λ u. IsUnmapped W.wire W.gives self.old.driver.wire self.old.driver.unique range self.new.driver.wire self.new.driver.unique) }
         ensures logs { (R.map self.new.ranges).ranges.logs ≡ (R.map self.old.ranges).ranges.logs }
         ensures refs { self.new.refs ≡ self.old.refs }
     {

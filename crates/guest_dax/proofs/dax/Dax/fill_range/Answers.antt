@@ -4,6 +4,7 @@ use Rattle.guest_dax.specs.Stands.{stand, KeepsMap}
 use Rattle.guest_dax.proofs.Walking.{Keeps-both, Keeps-map}
 use Rattle.guest_dax.proofs.Upgrading.{may-set-moved, KeepsMap-settled, settled-ok, settled-err, filled, can-settle}
 use Rattle.guest_dax.proofs.Keeping.{KeepsMap-same}
+use Rattle.guest_dax.proofs.Upgrading.{filled-log}
 use Rattle.guest_dax.proofs.dax.Dax.fill_range.Goals as goal
 
 pub map_chunk-requires-clause-may : goal.map_chunk-requires-clause-may
@@ -47,3 +48,8 @@ returns-in-Err-clause-looks g c = ap (λ (m : MapView). m.ranges.looks) (settled
 
 pub returns-in-Err-clause-rounds : goal.returns-in-Err-clause-rounds
 returns-in-Err-clause-rounds g c = ap (λ (m : MapView). m.ranges.rounds) (settled-err _ c.args.chunk c.args.mode c.in-Err.field-0 _ c.in-Err.ensures) ∙ c.map_chunk.ensures.rounds
+
+pub returns-in-Ok-clause-grown : goal.returns-in-Ok-clause-grown
+returns-in-Ok-clause-grown g c =
+    let (rest, mapped) = c.in_ok-map_chunk.ensures.maps in
+    filled-log (g.R.MapBoard.map c.args.self.now.ranges) c.args.file c.args.chunk c.args.mode (g.R.MapBoard.map c.map_chunk.new.self.ranges) c.in-Ok.field-0 _ rest c.requires.tree (omega (arith, c.requires.file, c.requires.stands.refs_of, c.requires.stands.logs)) (settled-ok _ c.args.chunk c.args.mode c.in-Ok.field-0 _ c.in-Ok.ensures)

@@ -5,6 +5,9 @@ use Rattle.guest_dax.specs.Stands.{stand}
 use Rattle.guest_dax.specs.Reclaims.{Attempted}
 use Rattle.guest_dax.proofs.Walking.{Walks-same, Walks-both, Walks-searches, Walks-free}
 use Rattle.guest_dax.proofs.FreeingLaws.{Before, at-removed, took-hands, took-others, again-hands, again-others}
+use Rattle.std.proofs.Common.{◌∙◌, ap, arith}
+use Rattle.page_map.specs.Board.{MapView}
+use Rattle.guest_dax.proofs.Removing.{freed-by, EndsRemoved-after, EndsRemoved-kept}
 use Rattle.guest_dax.proofs.dax.Dax.free_at.Goals as goal
 
 pub loop-init : goal.loop-init
@@ -78,3 +81,15 @@ loop-preserved g c =
       refs,
       driver,
     )
+
+pub returns-in-Some-Removed-clause-removed : goal.returns-in-Some-Removed-clause-removed
+returns-in-Some-Removed-clause-removed g c freed =
+    let s = stand (g.W.Wire.wire c.args.self.now.driver.wire) (g.F.FileBoard.board c.args.self.now.files) (g.R.MapBoard.map c.args.self.now.ranges) in
+    let t = stand (g.W.Wire.wire c.loop.self.driver.wire) (g.F.FileBoard.board c.loop.self.files) (g.R.MapBoard.map c.loop.self.ranges) in
+    let u = stand (g.W.Wire.wire c.loop.self.driver.wire) (g.F.FileBoard.board c.loop.self.files) (g.R.MapBoard.map c.try_mapped.new.ranges) in
+    let y = stand (g.W.Wire.wire c.unmap.new.self.driver.wire) (g.F.FileBoard.board c.unmap.new.self.files) (g.R.MapBoard.map c.settle_free-in-Some-Removed.new.self) in
+    let (w, hands, others, refs, driver) = c.loop.invariant in
+    let a : Attempted t.map c.args.range (attempts.Removed c.in-Some-Removed.file) u.map = subst (λ (x : Attempt). Attempted t.map c.args.range x u.map) c.in-Some-Removed.field-0-is (c.in-Some-Removed.ensures {u = tt}) in
+    let (searches, (taken, known, unpinned, seen, removed)) = a in
+    let kept = ap (λ (m : MapView). m.ranges.logs) c.settle_free-in-Some-Removed.ensures.rest ∙ c.unmap.ensures.logs in
+    freed-by g.W.Wire.wire g.W.Wire.gives c.args.self.now.driver.wire c.args.self.now.driver.unique _ _ s.map y.map c.in-Some-Removed.file c.args.range (omega (arith, known, w.keeps.map.files)) (EndsRemoved-kept s.map u.map y.map c.in-Some-Removed.file c.args.range kept (EndsRemoved-after s.map t.map u.map c.in-Some-Removed.file c.args.range (w.keeps.map.logs c.in-Some-Removed.file) removed)) (rw driver at c.in_ok-unmap-in-Some-Removed.ensures.removed)

@@ -2,6 +2,7 @@ use Rattle.std.proofs.Common.{◌∙◌, refl, arith}
 use Rattle.guest_dax.specs.Stands.{stand}
 use Rattle.guest_dax.proofs.Walking.{Walks-same, Walks-both}
 use Rattle.guest_dax.proofs.FreeingLaws.{free-on, free-done}
+use Rattle.guest_dax.proofs.Removing.{freed-by-later}
 use Rattle.guest_dax.proofs.dax.Dax.free_walk.Goals as goal
 
 pub loop-range-init : goal.loop-range-init
@@ -29,3 +30,11 @@ loop-range-preserved g c =
     let (w, hands, others, before, refs, driver) = c.loop-range.invariant in
     let on = free-on s t u c.args.from c.loop-range.range c.loop-range.auto.range w.keeps.map hands others before (rw c.if-branch.false at c.in_ok-free_at.ensures.frees) in
     (Walks-both s t u w c.free_at.ensures.walks, on.0, on.1, on.2, c.free_at.ensures.refs ∙ refs, c.in_ok-free_at.ensures.quiet c.if-branch.false ∙ driver)
+
+pub returns-then-branch-clause-removed : goal.returns-then-branch-clause-removed
+returns-then-branch-clause-removed g c freed =
+    let s = stand (g.W.Wire.wire c.args.self.now.driver.wire) (g.F.FileBoard.board c.args.self.now.files) (g.R.MapBoard.map c.args.self.now.ranges) in
+    let t = stand (g.W.Wire.wire c.loop-range.self.driver.wire) (g.F.FileBoard.board c.loop-range.self.files) (g.R.MapBoard.map c.loop-range.self.ranges) in
+    let u = stand (g.W.Wire.wire c.free_at.new.self.driver.wire) (g.F.FileBoard.board c.free_at.new.self.files) (g.R.MapBoard.map c.free_at.new.self.ranges) in
+    let (w, hands, others, before, refs, driver) = c.loop-range.invariant in
+    freed-by-later g.W.Wire.wire g.W.Wire.gives c.args.self.now.driver.wire c.args.self.now.driver.unique _ _ s.map t.map u.map w.keeps.map.files w.keeps.map.logs (rw driver at c.in_ok-free_at.ensures.removed c.if-branch.true)

@@ -2,6 +2,9 @@ use Rattle.std.proofs.Common.{◌∙◌, refl}
 use Rattle.guest_dax.specs.Stands.{stand}
 use Rattle.guest_dax.proofs.Walking.{Walks-same, Walks-both, Walks-searches}
 use Rattle.guest_dax.proofs.Rounds.{OthersLooks-step}
+use Rattle.std.proofs.Common.{ap, inl, inr}
+use Rattle.page_map.specs.Board.{Hands}
+use Rattle.guest_dax.proofs.Removing.{unmapped-moved}
 use Rattle.guest_dax.proofs.dax.Dax.reclaim_at.Goals as goal
 
 pub loop-init : goal.loop-init
@@ -45,3 +48,15 @@ loop-preserved g c =
       refs,
       driver,
     )
+
+pub returns-in-Took-clause-removed : goal.returns-in-Took-clause-removed
+returns-in-Took-clause-removed g c took =
+    let (w, hands, others, refs, driver) = c.loop.invariant in
+    inl (rw driver (refl, refl))
+
+pub returns-in-Removed-clause-removed : goal.returns-in-Removed-clause-removed
+returns-in-Removed-clause-removed g c took =
+    let (w, hands, others, refs, driver) = c.loop.invariant in
+    let (searches, (taken, known, unpinned, seen, removed)) = c.in-Removed.ensures {u = tt} in
+    let (left, looks) = c.in_ok-unmap-in-Removed.ensures.unmaps in
+    inr (unmapped-moved g.W.Wire.wire g.W.Wire.gives c.args.self.now.driver.wire c.args.self.now.driver.unique c.args.range c.unmap.new.self.driver.wire c.unmap.new.self.driver.unique (g.R.MapBoard.map c.unmap.new.self.ranges).hands (ap (λ (h : Hands). h.moves) left ∙ ap (λ (h : Hands). h.moves) taken) (rw driver at c.in_ok-unmap-in-Removed.ensures.removed))

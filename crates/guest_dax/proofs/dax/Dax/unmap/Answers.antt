@@ -51,3 +51,16 @@ returns-in-Err-clause-unmaps g c =
       looks-leave _ _ c.leave-in-Err.ensures ∙ ap (λ (m : MapView). m.ranges.looks) f ∙ ap (λ (r : RangesView). r.looks) p.ranges,
       Caused-asked g.W.Wire.wire g.W.Wire.gives c.args.self.now.driver.wire old (message (next_number c.args.self.now.driver.unique) c.node_of-node.result (remove_request c.args.range)) (wiped v (range_size * c.args.range) range_size) c.in-Err.refusal c.remove-sent.new.self.wire new c.refusal_of.result s u refl refl asks c.refusal_of.ensures,
     )
+
+pub returns-in-Ok-clause-removed : goal.returns-in-Ok-clause-removed
+returns-in-Ok-clause-removed g c = record {
+  answered = record {
+    node = c.node_of-node.result;
+    body = remove_request c.args.range;
+    old = boards (g.F.FileBoard.board c.args.self.now.files) (g.R.MapBoard.map c.args.self.now.ranges);
+    new = boards (g.F.FileBoard.board c.remove-sent.new.files) (g.R.MapBoard.map c.remove-sent.new.map);
+    answer = c.in-Ok.ensures.answer;
+    number = c.remove-sent.ensures.number;
+  };
+  body_is = refl;
+}

@@ -21,3 +21,8 @@ loop-range-preserved g c =
     let (w, hands, others, before, refs, driver) = c.loop-range.invariant in
     let on = walk-on s t u c.args.from c.loop-range.range c.loop-range.auto.range w.keeps.map hands others before (rw c.if-branch.false at c.in_ok-reclaim_at.ensures.comes) in
     (Walks-both s t u w c.reclaim_at.ensures.walks, on.0, on.1, on.2, c.reclaim_at.ensures.refs ∙ refs, c.in_ok-reclaim_at.ensures.quiet c.if-branch.false ∙ driver)
+
+pub returns-then-branch-clause-removed : goal.returns-then-branch-clause-removed
+returns-then-branch-clause-removed g c took =
+    let (w, hands, others, before, refs, driver) = c.loop-range.invariant in
+    rw driver at c.in_ok-reclaim_at.ensures.removed c.if-branch.true
