@@ -1,5 +1,5 @@
 -- One operation under a file's turn.
-use Rattle.std.proofs.Common.{◌≡◌, ◌∙◌, ap, sym, refl, subst, ℕ, ◌<◌, ◌≤◌, Bool, true, false, List, [], ◌∷◌, ◌++◌, length, take, Option, None, Result, Ok, Err, arith}
+use Rattle.std.proofs.Common.{◌≡◌, ◌∙◌, ap, sym, refl, subst, ℕ, ◌<◌, ◌≤◌, Bool, true, false, List, [], ◌∷◌, ◌++◌, length, take, Option, None, Ok, arith}
 use Rattle.std.specs.Prelude.{IfSome}
 use Rattle.std.proofs.lemmas.Grind.{common_steps}
 use Rattle.std.proofs.lemmas.List.{append-nil}
@@ -8,15 +8,14 @@ use Rattle.plain_file.specs.declared.operations.Way.{Way}
 use Rattle.plain_file.specs.declared.operations.Entry.{Entry}
 use Rattle.plain_file.specs.declared.operations.First.{First}
 use Rattle.plain_file.specs.declared.operations.Applied.{Applied}
-use Rattle.plain_file.specs.declared.refusals.BoardRefusal.{BoardRefusal}
-use Rattle.plain_file.specs.declared.refusals.BoardRefusal.TheVariants as refusals
 use Rattle.plain_file.specs.History.{bytes, size}
 use Rattle.plain_file.specs.Board.{FileView, FileHands, BoardView, file_at, with_file, with_own, entry_of, applied, marked, file_answer, bytes_now, size_of}
 use Rattle.plain_file.specs.Turns.{AppliesAs, AreOthers, entered, seen_file, left}
 use Rattle.plain_file.specs.Sound.{IsSoundBoard}
 use Rattle.plain_file.proofs.OneFile.{file_at-with_file, file_at-with_other}
 use Rattle.guest_io.specs.declared.calls.Done.{Done}
-use Rattle.guest_io.specs.Calls.{IsDone, Directs, KeepsFloor, AppliesDirect, OthersStay}
+use Rattle.guest_io.specs.Calls.{IsDone, Directs, KeepsFloor, OthersStay}
+use Rattle.guest_io.specs.Chunks.{AppliesDirect}
 
 -- the bytes before the last entry
 pub bytes-before : (first : First) (h : List Entry) (e : Entry) → bytes first (h ++ e ∷ []) (length h) ≡ bytes first h (length h)
@@ -42,7 +41,7 @@ file-after v file more op within =
     file_at-with_file m file (record (file_at m file) { ready = v.plain }) in_m
     ∙ ap (λ (x : FileView). record x { ready = v.plain }) (there ∙ ap (λ (x : FileView). with_own v.plain (entry_of v op) x) here)
 
-others-after : (v : BoardView) (file : ℕ) (more : List Entry) (op : Op) → OthersStay v file (left (applied (entered v file more) file op) file)
+pub others-after : (v : BoardView) (file : ℕ) (more : List Entry) (op : Op) → OthersStay v file (left (applied (entered v file more) file op) file)
 others-after v file more op j else =
     let f = seen_file (file_at v file) more in
     let e = entered v file more in
@@ -50,7 +49,7 @@ others-after v file more op j else =
     let m = applied e file op in
     file_at-with_other m file j (record (file_at m file) { ready = v.plain }) else ∙ file_at-with_other e file j own else ∙ file_at-with_other v file j f else
 
-count-after : (v : BoardView) (file : ℕ) (more : List Entry) (op : Op) → length (left (applied (entered v file more) file op) file).files ≡ length v.files
+pub count-after : (v : BoardView) (file : ℕ) (more : List Entry) (op : Op) → length (left (applied (entered v file more) file op) file).files ≡ length v.files
 count-after v file more op =
     let f = seen_file (file_at v file) more in
     let e = entered v file more in
@@ -58,7 +57,7 @@ count-after v file more op =
     let m = applied e file op in
     long-set m file (record (file_at m file) { ready = v.plain }) ∙ long-set e file own ∙ long-set v file f
 
-no-turn : (h : FileHands) → h.turn ≡ None → record h { turn = None } ≡ h
+pub no-turn : (h : FileHands) → h.turn ≡ None → record h { turn = None } ≡ h
 no-turn h e = ap (λ (t : Option ℕ). record h { turn = t }) (sym e)
 
 floor-seen : (plain : Bool) (v : BoardView) (file : ℕ) (more : List Entry) → v.plain ≡ plain → file < length v.files → AreOthers v more → IsSoundBoard (entered v file more) file → (v.plain ≡ true → IfSome (file_at v file).floor (λ z. z ≤ size_of (file_at v file))) → IfSome (file_at v file).floor (λ z. z ≤ size_of (seen_file (file_at v file) more))
@@ -120,9 +119,3 @@ Directs-as v file call way op a w within free (more, mid, others, sound, (may, i
       Directs-unmarked v file call way op (record { place = a.place; answer = a.answer }) w (subst (λ (x : BoardView). Directs m file call way op (record { place = a.place; answer = a.answer }) x) (sym e) (directs m file more op a within free others is)),
       subst (λ (x : BoardView). KeepsFloor v file (record { place = a.place; answer = a.answer }) x) (sym e) (floor-after m file more op a within others sound is),
     )
-
--- whatever is answered, a board stays a plain one or not
-pub plain-as : (v : BoardView) (file : ℕ) (op : Op) (result : Result Applied BoardRefusal) (w : BoardView) → AppliesAs v file op result w → w.plain ≡ v.plain
-plain-as v file op (Ok a) w (more, mid, others, sound, (may, is, d), last) = ap (λ (b : BoardView). b.plain) last ∙ ap (λ (b : BoardView). b.plain) d
-plain-as v file op (Err (refusals.Unbarred size)) w (more, mid, others, sound, (may, is, d), last) = ap (λ (b : BoardView). b.plain) last ∙ ap (λ (b : BoardView). b.plain) d
-plain-as v file op (Err refusals.Memory) w (more, mid, others, sound, d, last) = ap (λ (b : BoardView). b.plain) last ∙ ap (λ (b : BoardView). b.plain) d

@@ -1,10 +1,11 @@
 -- A chunk that is got for a call.
-use Rattle.std.proofs.Common.{◌≡◌, ◌∙◌, ap, sym, refl, subst, ℕ, ◌+◌, ◌<◌, ◌≤◌, List, ◌++◌, length, take, get_or, None, Err, arith}
+use Rattle.std.proofs.Common.{◌≡◌, ◌∙◌, ap, sym, refl, subst, ℕ, ◌+◌, ◌<◌, ◌≤◌, List, [], ◌++◌, length, take, get_or, Option, None, Some, Result, Ok, Err, arith}
 use Rattle.std.proofs.lemmas.Grind.{common_steps}
 use Rattle.page_map.specs.declared.pages.Mode.{Mode}
 use Rattle.page_map.specs.declared.ranges.LogEntry.{LogEntry}
+use Rattle.page_map.specs.declared.ranges.Placed.{Placed}
 use Rattle.page_map.specs.Logs.{placed_at}
-use Rattle.page_map.specs.Board.{Hands, log_at}
+use Rattle.page_map.specs.Board.{MapView, Hands, log_at}
 use Rattle.guest_wire.specs.Keeps.{Begins}
 use Rattle.guest_dax.specs.Stands.{Stand, Keeps}
 use Rattle.guest_dax.specs.Reclaims.{Acquires}
@@ -12,7 +13,9 @@ use Rattle.guest_dax.specs.declared.refusals.DaxRefusal.{DaxRefusal}
 use Rattle.guest_dax.specs.declared.refusals.DaxRefusal.TheVariants as refusals
 use Rattle.guest_dax.proofs.Searching.{IsBlocked-same}
 use Rattle.guest_dax.proofs.Rounds.{Caused-keeps}
-use Rattle.guest_io.specs.Chunks.{Gets}
+use Rattle.guest_dax.specs.Pinning.{IsEnoughPlaced}
+use Rattle.guest_io.specs.Chunks.{Gets, StaysRounds}
+use Rattle.guest_io.specs.Ways.{IsPlacedFor, IsPlacedWith}
 
 front-of : (xs ys : List LogEntry) → take (length xs) (xs ++ ys) ≡ xs
 front-of xs ys = grind (arith, common_steps)
@@ -36,3 +39,32 @@ Gets-refused s t u file chunk mode (refusals.Errno n) k h none l (h', looks, rou
 Gets-refused s t u file chunk mode (refusals.BadReply b) k h none l (h', looks, rounds, caused) = (h' ∙ h, looks, Caused-keeps s t u (refusals.BadReply b) k caused)
 Gets-refused s t u file chunk mode refusals.WireFault k h none l (h', looks, rounds, caused) = (h' ∙ h, looks, Caused-keeps s t u refusals.WireFault k caused)
 Gets-refused s t u file chunk mode refusals.Memory k h none l (h', looks) = (h' ∙ h, looks, tt)
+
+-- ---- rounds
+
+pub rounds-as : {T : Type 0} (old : MapView) (r : Result T DaxRefusal) (new : MapView) → new.ranges.rounds ≡ old.ranges.rounds → StaysRounds old r new
+rounds-as old (Ok p) new e = e
+rounds-as old (Err (refusals.Busy looked)) new e = e
+rounds-as old (Err (refusals.Errno number)) new e = e
+rounds-as old (Err (refusals.BadReply bytes)) new e = e
+rounds-as old (Err refusals.WireFault) new e = e
+rounds-as old (Err refusals.Memory) new e = tt
+
+-- ---- what is placed already
+
+enough-for : (mode : Mode) (o : Option Placed) → IsPlacedWith mode o → IsEnoughPlaced mode o
+unfolding IsEnoughPlaced
+enough-for mode None h = absurd h
+enough-for mode (Some p) h = h
+
+pub enough-placed-for : (log : List LogEntry) (chunk : ℕ) (mode : Mode) → IsPlacedFor log chunk mode → IsEnoughPlaced mode (placed_at log chunk)
+enough-placed-for log chunk mode h = enough-for mode (placed_at log chunk) h
+
+none-for : (mode : Mode) (o : Option Placed) → o ≡ None → IsPlacedWith mode o → ⊥
+none-for mode None e h = h
+none-for mode (Some p) e h = absurd cc
+
+-- where no log has changed, a chunk that was placed is placed
+pub placed-still : (v w : MapView) (file chunk : ℕ) (mode : Mode) → w.ranges.logs ≡ v.ranges.logs → IsPlacedFor (log_at v file) chunk mode → placed_at (log_at w file) chunk ≡ None → ⊥
+placed-still v w file chunk mode logs h none =
+    none-for mode (placed_at (log_at v file) chunk) (ap (λ (ls : List (List LogEntry)). placed_at (get_or ls file []) chunk) (sym logs) ∙ none) h

@@ -4,6 +4,12 @@ pub mod Entered
 pub mod OnFiles
 pub mod Sending
 pub mod Heard
+pub mod Staying
 pub mod Getting
-pub mod Accessing
+pub mod Growing
+pub mod Holding
+pub mod Passing
 pub mod Homing
+pub mod Reading
+pub mod Closing
+pub mod Leasing

@@ -1,10 +1,9 @@
 -- What a call of a guest answers, and what it leaves of the files and the ranges: all that a line of a transcript needs.
-use Rattle.std.specs.Prelude.{◌≡◌, ◌≢◌, ℕ, ◌+◌, ◌-◌, ◌/◌, ◌≤◌, true, List, [], ◌∷◌, ◌++◌, length, Option, Some, None, IfSome, Result, Ok, Err, All}
+use Rattle.std.specs.Prelude.{◌≡◌, ◌≢◌, ℕ, ◌+◌, ◌-◌, ◌/◌, ◌≤◌, true, List, [], ◌∷◌, ◌++◌, length, Option, Some, None, IfSome, All}
 use Rattle.plain_file.specs.declared.operations.Op.{Op}
 use Rattle.plain_file.specs.declared.operations.Way.{Way}
 use Rattle.plain_file.specs.declared.operations.Entry.{Entry}
 use Rattle.plain_file.specs.declared.operations.Through.{Through}
-use Rattle.plain_file.specs.declared.refusals.Memory.{Memory}
 use Rattle.plain_file.specs.File.{answer}
 use Rattle.plain_file.specs.History.{bytes, size}
 use Rattle.plain_file.specs.Board.{FileView, BoardView, file_at, size_of}
@@ -62,8 +61,3 @@ pub record Directs (old : BoardView) (file call : ℕ) (way : Way) (op : Op) (d 
 -- under a lease the size before the place isn't below the one that was noted: always on a shared board, and on a plain one as long as it is so
 abbrev pub KeepsFloor : BoardView → ℕ → Done → BoardView → Type 0
 KeepsFloor old file d new = (old.plain ≡ true → IfSome (file_at old file).floor (λ z. z ≤ size_of (file_at old file))) → IfSome (file_at old file).floor (λ z. z ≤ size (file_at new file).first (file_at new file).history d.place)
-
--- An operation without a request: one entry, or none, and then others' entries may be seen.
-abbrev pub AppliesDirect : BoardView → ℕ → ℕ → Way → Op → Result Done Memory → BoardView → Type 0
-AppliesDirect old file call way op (Ok d) new = Directs old file call way op d new × KeepsFloor old file d new
-AppliesDirect old file call way op (Err e) new = (new.hands ≡ old.hands) × (length new.files ≡ length old.files) × OthersStay old file new × ((file_at new file).own ≡ (file_at old file).own)

@@ -1,5 +1,5 @@
 -- What a read and a write of a guest answer, and what they leave.
-use Rattle.std.specs.Prelude.{◌≡◌, ◌≢◌, ℕ, ◌+◌, ◌<◌, ◌≤◌, true, false, List, length, None, Result, Ok, Err, ◌⊎◌}
+use Rattle.std.specs.Prelude.{◌≡◌, ℕ, ◌+◌, ◌<◌, true, false, List, length, IsSome, Result, Ok, Err, ◌⊎◌}
 use Rattle.plain_file.specs.Counts.{Rose}
 use Rattle.plain_file.specs.declared.operations.Op.{Op}
 use Rattle.plain_file.specs.declared.operations.Op.TheVariants as ops
@@ -65,10 +65,14 @@ abbrev pub Reads : Stand → ℕ → ℕ → ℕ → ℕ → Result Done Refusal
 Reads old file call off len (Ok d) new = NoLooks new.map × ((way : Way) × IsReadWay (range_count old.map) (log_at new.map file) off len way × (old.wire.honest ≡ true → Directs old.files file call way (ops.Read off len) d new.files))
 Reads old file call off len (Err e) new = IsRefused old file call (ops.Read off len) off len e new
 
+-- a board that isn't a plain one stands over a table, and so keeps the sizes that it notes
+abbrev pub KeepsSizes : BoardView → Type 0
+KeepsSizes v = v.plain ≡ false → IsSome v.over
+
 -- What `write` answers. Over an honest wire it is one entry; over plain boards the size that is noted stays a lower bound by itself.
 abbrev pub Writes : Stand → ℕ → ℕ → ℕ → List ℕ → Result Done Refusal → Stand → Type 0
 Writes old file call off bytes (Ok d) new = NoLooks new.map × ((way : Way) × (old.wire.honest ≡ true → Directs old.files file call way (ops.Write off bytes) d new.files
-    × IsWriteWay (range_count old.map) (log_at new.map file) (file_at old.files file) (file_at new.files file) d.place off (length bytes) way))
+    × (KeepsSizes old.files → IsWriteWay (range_count old.map) (log_at new.map file) (file_at old.files file) (file_at new.files file) d.place off (length bytes) way)))
 Writes old file call off bytes (Err e) new = IsRefused old file call (ops.Write off bytes) off (length bytes) e new
 
 -- no count of blocked rounds rises, but after want of memory

@@ -1,12 +1,13 @@
 -- What a request about a file is answered, and what it leaves.
-use Rattle.std.specs.Prelude.{◌≡◌, ◌≢◌, ℕ, true, false, List, ◌++◌, Option, Some, Result, Ok, Err, ◌⊎◌, All}
+use Rattle.std.specs.Prelude.{◌≡◌, ◌≢◌, ℕ, ◌+◌, true, false, List, ◌++◌, length, slice_get, Option, Some, None, Result, Ok, Err, ◌⊎◌, All}
 use Rattle.plain_file.specs.Counts.{Rose}
 use Rattle.plain_file.specs.declared.operations.Answer.{Answer}
 use Rattle.plain_file.specs.declared.operations.Answer.TheVariants as answers
 use Rattle.plain_file.specs.declared.operations.Entry.{Entry}
 use Rattle.plain_file.specs.declared.operations.Op.{Op}
 use Rattle.plain_file.specs.declared.operations.Way.{Way}
-use Rattle.plain_file.specs.Board.{BoardView, file_at, marked, last_of}
+use Rattle.plain_file.specs.Board.{Note, FileView, BoardView, file_at, marked, last_of}
+use Rattle.plain_file.specs.Sound.{IsFresh}
 use Rattle.fuse_codec.specs.Replies.{clean_reply}
 use Rattle.fuse_codec.specs.declared.replies.Reply.{Reply}
 use Rattle.fuse_codec.specs.declared.replies.Reply.TheVariants as replies
@@ -83,3 +84,7 @@ Sends old file call op way (Err (refusals.Errno number)) new = old.wire.honest �
 Sends old file call op way (Err (refusals.BadReply bytes)) new = old.wire.honest ≡ false
 Sends old file call op way (Err refusals.WireFault) new = (old.wire.honest ≡ false) × Rose old.wire.faults new.wire.faults
 Sends old file call op way (Err refusals.Memory) new = old.wire.honest ≡ true → IsUndone old.files file new.files ⊎ ((d : Done) × Directs old.files file call way op d new.files)
+
+-- Each size that was noted, and had no upper end, is that of the file between its lower end and the place of the newest entry.
+abbrev pub ClosesNotes : FileView → FileView → Type 0
+ClosesNotes old new = (k : ℕ) (n : Note) → slice_get old.notes k ≡ Some n → n.upper ≡ None → (place : ℕ) × (length new.history ≡ place + 1) × IsFresh new.first new.history n.lower place n.size

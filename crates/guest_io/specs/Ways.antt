@@ -8,6 +8,7 @@ use Rattle.plain_file.specs.Sound.{IsFresh}
 use Rattle.page_map.specs.declared.pages.Mode.{Mode}
 use Rattle.page_map.specs.declared.pages.Mode.TheVariants as modes
 use Rattle.page_map.specs.declared.ranges.LogEntry.{LogEntry}
+use Rattle.page_map.specs.declared.ranges.Placed.{Placed}
 use Rattle.page_map.specs.Logs.{placed_at}
 use Rattle.range_tree.specs.Ranges.{is_enough}
 use Rattle.guest_io.specs.Calls.{Covers, first_chunk, last_chunk}
@@ -26,9 +27,14 @@ IsWriteWay ranges log old new place off len ways.Req = ranges ≡ 0
 IsWriteWay ranges log old new place off len (ways.ReqSaw z) = (0 < ranges) × (z < off + len) × IsFresh new.first new.history (length old.history) place z
 IsWriteWay ranges log old new place off len (ways.Via first second) = (0 < ranges) × Covers log off len modes.W first second × (off + len ≤ size new.first new.history place)
 
+-- something is placed, with a mode that is enough
+abbrev pub IsPlacedWith : Mode → Option Placed → Type 0
+IsPlacedWith mode None = ⊥
+IsPlacedWith mode (Some p) = is_enough mode p.mode ≡ true
+
 -- a chunk is placed with a mode that is enough
 abbrev pub IsPlacedFor : List LogEntry → ℕ → Mode → Type 0
-IsPlacedFor log chunk mode = elim (placed_at log chunk) [ None ↦ ⊥ | Some p ↦ is_enough mode p.mode ≡ true ]
+IsPlacedFor log chunk mode = IsPlacedWith mode (placed_at log chunk)
 
 -- each chunk of an interval is
 pub record ArePlaced (log : List LogEntry) (off len : ℕ) (mode : Mode) : Type 0 where

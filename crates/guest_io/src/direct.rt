@@ -1,8 +1,8 @@
 ghost use Rattle.std.specs.Prelude.{◌≡◌, ◌<◌, ◌≤◌, None, length};
 ghost use Rattle.plain_file.specs.File.{max_file, reach};
-ghost use Rattle.plain_file.specs.Board.{BoardView};
 ghost use Rattle.plain_file.specs.Sound.{IsSoundBoard};
-ghost use Rattle.guest_io.specs.Calls.{AppliesDirect};
+ghost use Rattle.guest_io.specs.Chunks.{AppliesDirect};
+ghost use Rattle.guest_io.specs.Going.{StaysBoard};
 
 use crate::calls::Done;
 use plain_file::{FileTurns, Memory, Op, Way, apply_as};
@@ -23,7 +23,7 @@ pub(crate) fn apply_direct<T: Wait, F: FileTurns>(
     requires free { (F.board files.old).hands.turn ≡ None }
     requires fits { reach op ≤ max_file }
     ensures applies { AppliesDirect (F.board files.old) file call way op result (F.board files.new) }
-    ensures plain { (F.board files.new).plain ≡ (F.board files.old).plain }
+    ensures stays { StaysBoard (F.board files.old) (F.board files.new) }
     ensures sound { IsSoundBoard (F.board files.new) file }
 {
     files.mark(call, way);

@@ -1,12 +1,16 @@
-//! The calls of a guest on its files. `size` goes by a request. What `read` and `write` rest on is here too: the same
-//! by requests, and a direct operation on one chunk. The two calls themselves, truncation and holds aren't here yet.
+//! The calls of a guest on its files: `read`, `write` and `size`. Without ranges each is one request. With ranges a read
+//! goes through the window, and so does a write that ends at most at the file's size, which a lease keeps; a write that
+//! ends above it, and `size`, are requests. Truncation and holds aren't here yet.
 #![tactic(auto)]
 
 mod calls;
 mod chunks;
 mod direct;
 mod guest;
+mod pins;
+mod reads;
 mod requests;
+mod writes;
 
 pub use calls::{Done, Refusal};
 pub use guest::Guest;

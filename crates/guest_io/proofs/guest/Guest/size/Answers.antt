@@ -9,6 +9,7 @@ use Rattle.guest_wire.specs.Requests.{message, next_number, getattr_request}
 use Rattle.guest_dax.specs.Stands.{stand}
 use Rattle.guest_io.proofs.OnFiles.{size-on, size_reply, handle-of}
 use Rattle.guest_io.proofs.Sending.{Asks, asks-home, asks-answered, asks-refused, CanAsk-marked}
+use Rattle.guest_io.proofs.Reading.{asks-leaves}
 use Rattle.guest_io.proofs.guest.Guest.size.Goals as goal
 
 pub getattr-sent-requires : goal.getattr-sent-requires
@@ -108,3 +109,47 @@ returns-in-Err-clause-sends g c =
 pub enter_reply-requires-clause-good : goal.enter_reply-requires-clause-good
 unfolding is_reply
 enter_reply-requires-clause-good g c = refl
+
+pub returns-in-Ok-clause-leaves : goal.returns-in-Ok-clause-leaves
+returns-in-Ok-clause-leaves g c =
+    let old = boards (g.F.FileBoard.board c.args.self.now.dax.files) (g.R.MapBoard.map c.args.self.now.dax.ranges) in
+    let new = boards (g.F.FileBoard.board c.getattr-sent.new.files) (g.R.MapBoard.map c.getattr-sent.new.map) in
+    let before = c.args.self.now.dax.driver.wire in
+    let after = c.getattr-sent.new.self.wire in
+    let at = c.ref_of-at.result in
+    let m = message (next_number c.args.self.now.dax.driver.unique) at.node (getattr_request c.ref_of-at.result) in
+    let s = stand (g.W.Wire.wire before) old.files old.map in
+    let asks : Asks g.W.Wire.wire g.W.Wire.gives (λ out r. r ≡ replies.Attr out) before old c.args.call ways.Req m c.args.file (ops.Size) (size_reply at.node c.args.file) (c.getattr-sent.result) after new = record {
+      asked = g.F.FileBoard.board c.mark.new.self;
+      marks = c.mark.ensures;
+      answer = c.getattr-sent.ensures.answer;
+      keeps = c.getattr-sent.ensures.wire;
+      both = c.getattr-sent.ensures.boards;
+      within = omega (arith, c.requires.file, c.requires.home.stands.refs_of);
+      free = c.requires.home.stands.turn;
+      sound = c.sound-2.ensures;
+      on_file = λ honest. size-on (g.W.Wire.wire before).state (next_number c.args.self.now.dax.driver.unique) at c.args.file (handle-of s c.args.self.now.dax.refs at c.args.file c.requires.home.stands c.requires.file c.ref_of-at.ensures honest);
+    } in
+    asks-leaves g.W.Wire.wire g.W.Wire.gives (λ out r. r ≡ replies.Attr out) before old c.args.call ways.Req m c.args.file (ops.Size) (size_reply at.node c.args.file) c.getattr-sent.result after new asks
+
+pub returns-in-Err-clause-leaves : goal.returns-in-Err-clause-leaves
+returns-in-Err-clause-leaves g c =
+    let old = boards (g.F.FileBoard.board c.args.self.now.dax.files) (g.R.MapBoard.map c.args.self.now.dax.ranges) in
+    let new = boards (g.F.FileBoard.board c.getattr-sent.new.files) (g.R.MapBoard.map c.getattr-sent.new.map) in
+    let before = c.args.self.now.dax.driver.wire in
+    let after = c.getattr-sent.new.self.wire in
+    let at = c.ref_of-at.result in
+    let m = message (next_number c.args.self.now.dax.driver.unique) at.node (getattr_request c.ref_of-at.result) in
+    let s = stand (g.W.Wire.wire before) old.files old.map in
+    let asks : Asks g.W.Wire.wire g.W.Wire.gives (λ out r. r ≡ replies.Attr out) before old c.args.call ways.Req m c.args.file (ops.Size) (size_reply at.node c.args.file) (c.getattr-sent.result) after new = record {
+      asked = g.F.FileBoard.board c.mark.new.self;
+      marks = c.mark.ensures;
+      answer = c.getattr-sent.ensures.answer;
+      keeps = c.getattr-sent.ensures.wire;
+      both = c.getattr-sent.ensures.boards;
+      within = omega (arith, c.requires.file, c.requires.home.stands.refs_of);
+      free = c.requires.home.stands.turn;
+      sound = c.sound-2.ensures;
+      on_file = λ honest. size-on (g.W.Wire.wire before).state (next_number c.args.self.now.dax.driver.unique) at c.args.file (handle-of s c.args.self.now.dax.refs at c.args.file c.requires.home.stands c.requires.file c.ref_of-at.ensures honest);
+    } in
+    asks-leaves g.W.Wire.wire g.W.Wire.gives (λ out r. r ≡ replies.Attr out) before old c.args.call ways.Req m c.args.file (ops.Size) (size_reply at.node c.args.file) c.getattr-sent.result after new asks
