@@ -125,6 +125,7 @@ idle_new ranges fs ats w files map opened pages some count o window board ranged
       may_lease = refl;
       unbarred = refl;
       leases = omega (arith, none', leases_new fs);
+      sizes = λ shared. absurd (true≢false shared);
     })
   where
     leases_new : (gs : List FileLine) → sum (new_board 0 (firsts_of gs)).hands.leases ≡ 0

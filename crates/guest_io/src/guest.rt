@@ -3,6 +3,7 @@ ghost use Rattle.std.specs.Prelude.{◌≡◌};
 use guest_dax::Dax;
 
 /// A guest: its ranges, with its client, its boards and its open files.
+#[derive(Drop)]
 pub struct Guest<W, F, R> {
     /// Its ranges.
     pub dax: Dax<W, F, R>,

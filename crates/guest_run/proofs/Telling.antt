@@ -176,6 +176,7 @@ IsIdle-after s u refs k home looks i = record {
   may_lease = k.files.may_lease ∙ i.may_lease;
   unbarred = ap (λ h. h.bar) k.files.hands ∙ i.unbarred;
   leases = rw (k.files.hands) i.leases;
+  sizes = λ shared. subst IsSome (sym k.files.over) (i.sizes (sym k.files.plain ∙ shared));
 }
 
 -- ---- what the line tells

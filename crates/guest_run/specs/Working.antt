@@ -29,7 +29,7 @@ use Rattle.guest_io.specs.declared.calls.Refusal.TheVariants as refusals
 use Rattle.guest_io.specs.Calls.{Directs}
 use Rattle.guest_io.specs.Requests.{IsHome, IsUndone}
 use Rattle.guest_io.specs.Ways.{IsReadWay, IsWriteWay}
-use Rattle.guest_io.specs.Going.{LeavesAll, IsBusy}
+use Rattle.guest_io.specs.Going.{KeepsSizes, IsBusy}
 use Rattle.guest_run.specs.Runs.{Asked, asked}
 
 -- ---- the calls
@@ -78,6 +78,7 @@ pub record IsIdle (s : Stand) (refs : List FileRef) : Type 0 where
   pub may_lease : s.files.may_lease ≡ true
   pub unbarred : s.files.hands.bar ≡ None
   pub leases : sum s.files.hands.leases < 64
+  pub sizes : KeepsSizes s.files
 
 -- nobody else takes or pins ranges, of which there are none or more than one, and nothing is pinned
 pub record IsAlone (v : MapView) : Type 0 where
