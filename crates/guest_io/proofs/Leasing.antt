@@ -241,7 +241,7 @@ Writes-through wire wire' map map' v w file call off written z (Ok d) some in_v 
         let same : size (file_at (unleased w file) file).first (file_at (unleased w file) file).history d.place ≡ size (file_at w file).first (file_at w file).history d.place =
         ap (λ (x : First). size x (file_at (unleased w file) file).history d.place) b.first ∙ ap (λ (l : List Entry). size (file_at w file).first l d.place) b.history in (
           Directs-between v (leased v file z) w (unleased w file) file call (ways.Via first second) (ops.Write off written) d (alone-leased v file z in_v) both.0 b (hands-unleased v w file z hands),
-          λ noting. (some, covers, omega (arith, end, low, same)),
+          (some, covers, omega (arith, end, low, same)),
         ),
   ),
 )
@@ -326,7 +326,7 @@ Writes-request wire map v t file call off written z (Ok d) some within below loo
         let a = alone-lease v file z within in
         let x = does honest in
         let y = Directs-between v (after_lease v file z) t.files t.files file call (ways.ReqSaw z) (ops.Write off written) d a x (alone-same t.files file) (x.hands ∙ hands-lease v file z) in
-        (y, λ noting. (some, below, fresh-by v.plain wire v file z d call (ways.ReqSaw z) (ops.Write off written) t.files refl within plain noting (whole honest) y (closes honest))),
+        (y, (some, below, λ noting. fresh-by v.plain wire v file z d call (ways.ReqSaw z) (ops.Write off written) t.files refl within plain noting (whole honest) y (closes honest))),
   ),
 )
 Writes-request wire map v t file call off written z (Err e) some within below looks plain whole k h closes =

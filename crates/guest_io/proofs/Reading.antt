@@ -72,7 +72,7 @@ pub NoLooks-sent : (s t : Stand) (call : ℕ) (way : Way) → SendsRest s call w
 NoLooks-sent s t call way k looks = no-looks s.map t.map k.map looks
 
 pub Writes-sent : (s t : Stand) (file call off : ℕ) (bytes : List ℕ) (r : Result Done Refusal) → range_count s.map ≡ 0 → SendsRest s call ways.Req t → NoLooks s.map → Sends s file call (ops.Write off bytes) ways.Req r t → Writes s file call off bytes r t
-Writes-sent s t file call off bytes (Ok d) none k looks h = (no-looks s.map t.map k.map looks, (ways.Req, λ honest. (h.1 honest, λ noting. none)))
+Writes-sent s t file call off bytes (Ok d) none k looks h = (no-looks s.map t.map k.map looks, (ways.Req, λ honest. (h.1 honest, none)))
 Writes-sent s t file call off bytes (Err e) none k looks h = IsRefused-sent s t file call (ops.Write off bytes) ways.Req off (length bytes) e k looks h
 
 -- ---- through the window

@@ -72,7 +72,7 @@ KeepsSizes v = v.plain ≡ false → IsSome v.over
 -- What `write` answers. Over an honest wire it is one entry; over plain boards the size that is noted stays a lower bound by itself.
 abbrev pub Writes : Stand → ℕ → ℕ → ℕ → List ℕ → Result Done Refusal → Stand → Type 0
 Writes old file call off bytes (Ok d) new = NoLooks new.map × ((way : Way) × (old.wire.honest ≡ true → Directs old.files file call way (ops.Write off bytes) d new.files
-    × (KeepsSizes old.files → IsWriteWay (range_count old.map) (log_at new.map file) (file_at old.files file) (file_at new.files file) d.place off (length bytes) way)))
+    × IsWriteWay (KeepsSizes old.files) (range_count old.map) (log_at new.map file) (file_at old.files file) (file_at new.files file) d.place off (length bytes) way))
 Writes old file call off bytes (Err e) new = IsRefused old file call (ops.Write off bytes) off (length bytes) e new
 
 -- no count of blocked rounds rises, but after want of memory

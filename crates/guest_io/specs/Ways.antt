@@ -21,11 +21,12 @@ IsReadWay ranges log off len (ways.Via first second) = (0 < ranges) × Covers lo
 
 -- The way of a write that stands at this place of a file: without ranges a request. With ranges one live and writable
 -- pair for each chunk of the interval, where the write ends at most at the size before its place; or a request, with a
--- size that is below the write's end, and was the file's at some moment from what was seen before up to the place.
-abbrev pub IsWriteWay : ℕ → List LogEntry → FileView → FileView → ℕ → ℕ → ℕ → Way → Type 0
-IsWriteWay ranges log old new place off len ways.Req = ranges ≡ 0
-IsWriteWay ranges log old new place off len (ways.ReqSaw z) = (0 < ranges) × (z < off + len) × IsFresh new.first new.history (length old.history) place z
-IsWriteWay ranges log old new place off len (ways.Via first second) = (0 < ranges) × Covers log off len modes.W first second × (off + len ≤ size new.first new.history place)
+-- size that is below the write's end, and, where the board keeps the sizes that it notes, was the file's at some moment
+-- from what was seen before up to the place.
+abbrev pub IsWriteWay : Type 0 → ℕ → List LogEntry → FileView → FileView → ℕ → ℕ → ℕ → Way → Type 0
+IsWriteWay keeps ranges log old new place off len ways.Req = ranges ≡ 0
+IsWriteWay keeps ranges log old new place off len (ways.ReqSaw z) = (0 < ranges) × (z < off + len) × (keeps → IsFresh new.first new.history (length old.history) place z)
+IsWriteWay keeps ranges log old new place off len (ways.Via first second) = (0 < ranges) × Covers log off len modes.W first second × (off + len ≤ size new.first new.history place)
 
 -- something is placed, with a mode that is enough
 abbrev pub IsPlacedWith : Mode → Option Placed → Type 0
