@@ -13,7 +13,7 @@ use Rattle.guest_io.specs.declared.calls.Done.{Done}
 use Rattle.guest_io.specs.declared.calls.Refusal.{Refusal}
 use Rattle.guest_io.specs.declared.calls.Refusal.TheVariants as refusals
 use Rattle.guest_io.specs.Requests.{Sends}
-use Rattle.guest_io.specs.Going.{Reads, Writes, KeepsSizes}
+use Rattle.guest_io.specs.Going.{Reads, Writes}
 use Rattle.guest_run.specs.Runs.{Asked, asked}
 use Rattle.guest_run.specs.Working.{CameBy, Comes}
 
@@ -47,19 +47,19 @@ comes_read s t n file off len (Err (refusals.Errno x)) honest (looks, is) = true
 comes_read s t n file off len (Err (refusals.BadReply x)) honest (looks, is) = true≢false (sym honest ∙ is)
 comes_read s t n file off len (Err refusals.WireFault) honest k = true≢false (sym honest ∙ k.1)
 
-comes_write : (s t : Stand) (n file off : ℕ) (bytes : List ℕ) (c : Call) (answer : Result Done Refusal) → asked c ≡ Some (record { file = file; op = ops.Write off bytes }) → is_taking c ≡ true → KeepsSizes s.files → s.wire.honest ≡ true → Writes s file n off bytes answer t → Comes s n c answer t
+comes_write : (s t : Stand) (n file off : ℕ) (bytes : List ℕ) (c : Call) (answer : Result Done Refusal) → asked c ≡ Some (record { file = file; op = ops.Write off bytes }) → is_taking c ≡ true → s.wire.honest ≡ true → Writes s file n off bytes answer t → Comes s n c answer t
 unfolding CameBy
-comes_write s t n file off bytes c (Ok d) asks takes sizes honest (looks, (way, how)) = (
+comes_write s t n file off bytes c (Ok d) asks takes honest (looks, (way, how)) = (
   looks,
   record {
     to = record { file = file; op = ops.Write off bytes };
     way = way;
     asks = asks;
     directs = (how honest).0;
-    came = (how honest).1 sizes;
+    came = (how honest).1;
   },
 )
-comes_write s t n file off bytes c (Err (refusals.Busy looked)) asks takes sizes honest (busy, undone) = record {
+comes_write s t n file off bytes c (Err (refusals.Busy looked)) asks takes honest (busy, undone) = record {
   to = record { file = file; op = ops.Write off bytes };
   asks = asks;
   takes = takes;
@@ -68,18 +68,18 @@ comes_write s t n file off bytes c (Err (refusals.Busy looked)) asks takes sizes
   busy = busy;
   undone = undone honest;
 }
-comes_write s t n file off bytes c (Err refusals.Memory) asks takes sizes honest k = k.0
-comes_write s t n file off bytes c (Err (refusals.Errno x)) asks takes sizes honest (looks, is) = true≢false (sym honest ∙ is)
-comes_write s t n file off bytes c (Err (refusals.BadReply x)) asks takes sizes honest (looks, is) = true≢false (sym honest ∙ is)
-comes_write s t n file off bytes c (Err refusals.WireFault) asks takes sizes honest k = true≢false (sym honest ∙ k.1)
+comes_write s t n file off bytes c (Err refusals.Memory) asks takes honest k = k.0
+comes_write s t n file off bytes c (Err (refusals.Errno x)) asks takes honest (looks, is) = true≢false (sym honest ∙ is)
+comes_write s t n file off bytes c (Err (refusals.BadReply x)) asks takes honest (looks, is) = true≢false (sym honest ∙ is)
+comes_write s t n file off bytes c (Err refusals.WireFault) asks takes honest k = true≢false (sym honest ∙ k.1)
 
-pub comes_written : (s t : Stand) (n file off : ℕ) (bytes xs : List ℕ) (answer : Result Done Refusal) → xs ≡ bytes → KeepsSizes s.files → s.wire.honest ≡ true → Writes s file n off xs answer t → Comes s n (calls.Write file off bytes) answer t
+pub comes_written : (s t : Stand) (n file off : ℕ) (bytes xs : List ℕ) (answer : Result Done Refusal) → xs ≡ bytes → s.wire.honest ≡ true → Writes s file n off xs answer t → Comes s n (calls.Write file off bytes) answer t
 unfolding asked is_taking
-comes_written s t n file off bytes xs answer same sizes honest k = comes_write s t n file off bytes (calls.Write file off bytes) answer refl refl sizes honest (subst (λ (b : List ℕ). Writes s file n off b answer t) same k)
+comes_written s t n file off bytes xs answer same honest k = comes_write s t n file off bytes (calls.Write file off bytes) answer refl refl honest (subst (λ (b : List ℕ). Writes s file n off b answer t) same k)
 
-pub comes_filled : (s t : Stand) (n file off len byte : ℕ) (bytes : List ℕ) (answer : Result Done Refusal) → bytes ≡ replicate len byte → KeepsSizes s.files → s.wire.honest ≡ true → Writes s file n off bytes answer t → Comes s n (calls.Fill file off len byte) answer t
+pub comes_filled : (s t : Stand) (n file off len byte : ℕ) (bytes : List ℕ) (answer : Result Done Refusal) → bytes ≡ replicate len byte → s.wire.honest ≡ true → Writes s file n off bytes answer t → Comes s n (calls.Fill file off len byte) answer t
 unfolding asked is_taking
-comes_filled s t n file off len byte bytes answer same sizes honest k = comes_write s t n file off (replicate len byte) (calls.Fill file off len byte) answer refl refl sizes honest (subst (λ (xs : List ℕ). Writes s file n off xs answer t) same k)
+comes_filled s t n file off len byte bytes answer same honest k = comes_write s t n file off (replicate len byte) (calls.Fill file off len byte) answer refl refl honest (subst (λ (xs : List ℕ). Writes s file n off xs answer t) same k)
 
 pub comes_size : (s t : Stand) (n file : ℕ) (answer : Result Done Refusal) → NoLooks t.map → s.wire.honest ≡ true → Sends s file n ops.Size ways.Req answer t → Comes s n (calls.Size file) answer t
 unfolding asked CameBy

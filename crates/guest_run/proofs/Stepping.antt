@@ -34,7 +34,7 @@ use Rattle.guest_dax.proofs.Keeping.{KeepsMap-same, KeepsMap-both}
 use Rattle.guest_io.specs.declared.calls.Done.{Done}
 use Rattle.guest_io.specs.Calls.{Covers, first_chunk, last_chunk, IsThrough}
 use Rattle.guest_io.specs.Ways.{IsReadWay, IsWriteWay}
-use Rattle.guest_io.specs.Going.{LeavesAll}
+use Rattle.guest_io.specs.Going.{KeepsSizes, LeavesAll}
 use Rattle.guest_run.specs.Runs.{Asked, asked, the_entry, FitsWindow, FitsWay, IsSeenBefore, IsRunFrom, GoesOn, LogGoesOn}
 use Rattle.guest_run.specs.Working.{first_at, history_at, CameBy, IsMade, IsGivenUp, IsAlone, Tells, is_done_line}
 use Rattle.guest_run.proofs.Guests.{seen_on, one_more, one_blocked, seen_all}
@@ -64,16 +64,16 @@ covered_write log off len a None (same, live) = covered_one true log off len a s
 covered_write log off len a (Some b) (next, live, live') = covered_two true log off len a b next live live'
 
 -- a way of the guest's calls is one of a transcript
-fits : (ranges : ℕ) (log : List LogEntry) (old new : FileView) (seen : ℕ → Type 0) (op : Op) (place : ℕ) (way : Way) → ((n : ℕ) → length old.history ≤ n → seen n) → CameBy ranges log old new op place way → FitsWay ranges new.first new.history log seen place op way
+fits : (keeps : Type 0) (ranges : ℕ) (log : List LogEntry) (old new : FileView) (seen : ℕ → Type 0) (op : Op) (place : ℕ) (way : Way) → ((n : ℕ) → length old.history ≤ n → seen n) → keeps → CameBy keeps ranges log old new op place way → FitsWay ranges new.first new.history log seen place op way
 unfolding CameBy FitsWindow
-fits ranges log old new seen (ops.Read off len) place ways.Req all none = record { without = λ e. refl; windowed = λ some. absurd (omega (arith, none, some)) }
-fits ranges log old new seen (ops.Read off len) place (ways.ReqSaw z) all is = absurd is
-fits ranges log old new seen (ops.Read off len) place (ways.Via a b) all (some, live) = record { without = λ e. absurd (omega (arith, e, some)); windowed = λ k. covered_read log off len a b live }
-fits ranges log old new seen (ops.Write off xs) place ways.Req all none = record { without = λ e. refl; windowed = λ some. absurd (omega (arith, none, some)) }
-fits ranges log old new seen (ops.Write off xs) place (ways.ReqSaw z) all (some, low, (n, from, upto, long, is)) = record { without = λ e. absurd (omega (arith, e, some)); windowed = λ k. (low, (n, all n from, upto, sym is)) }
-fits ranges log old new seen (ops.Write off xs) place (ways.Via a b) all (some, live, end) = record { without = λ e. absurd (omega (arith, e, some)); windowed = λ k. (end, covered_write log off (length xs) a b live) }
-fits ranges log old new seen (ops.Truncate to) place way all is = record { without = λ e. is; windowed = λ k. is }
-fits ranges log old new seen ops.Size place way all is = record { without = λ e. is; windowed = λ k. is }
+fits keeps ranges log old new seen (ops.Read off len) place ways.Req all kept none = record { without = λ e. refl; windowed = λ some. absurd (omega (arith, none, some)) }
+fits keeps ranges log old new seen (ops.Read off len) place (ways.ReqSaw z) all kept is = absurd is
+fits keeps ranges log old new seen (ops.Read off len) place (ways.Via a b) all kept (some, live) = record { without = λ e. absurd (omega (arith, e, some)); windowed = λ k. covered_read log off len a b live }
+fits keeps ranges log old new seen (ops.Write off xs) place ways.Req all kept none = record { without = λ e. refl; windowed = λ some. absurd (omega (arith, none, some)) }
+fits keeps ranges log old new seen (ops.Write off xs) place (ways.ReqSaw z) all kept (some, low, fresh) = record { without = λ e. absurd (omega (arith, e, some)); windowed = λ k. (low, (let f = fresh kept in (f.0, all f.0 f.1, f.2, sym f.4))) }
+fits keeps ranges log old new seen (ops.Write off xs) place (ways.Via a b) all kept (some, live, end) = record { without = λ e. absurd (omega (arith, e, some)); windowed = λ k. (end, covered_write log off (length xs) a b live) }
+fits keeps ranges log old new seen (ops.Truncate to) place way all kept is = record { without = λ e. is; windowed = λ k. is }
+fits keeps ranges log old new seen ops.Size place way all kept is = record { without = λ e. is; windowed = λ k. is }
 
 -- ---- histories that go on
 
@@ -111,7 +111,7 @@ goes_one guest h f more others g = dite (ℕ_discrete g f)
 
 -- ---- one more call
 
-module _ (guest ranges : ℕ) (first : ℕ → First) (from : ℕ → ℕ) (s t : Stand) (cs : List Call) (ls : List Numbered) (c : Call) (n : ℕ) (l : Line) (number : n ≡ length cs) (own : s.files.guest ≡ guest) (count : range_count s.map ≡ ranges) (firsts : (f : ℕ) → first_at s.files f ≡ first f) (keeps : LeavesAll s t) (run : IsRunFrom guest ranges first from (history_at s.files) (log_at s.map) cs ls) where
+module _ (guest ranges : ℕ) (first : ℕ → First) (from : ℕ → ℕ) (s t : Stand) (cs : List Call) (ls : List Numbered) (c : Call) (n : ℕ) (l : Line) (number : n ≡ length cs) (own : s.files.guest ≡ guest) (count : range_count s.map ≡ ranges) (firsts : (f : ℕ) → first_at s.files f ≡ first f) (sizes : KeepsSizes s.files) (keeps : LeavesAll s t) (run : IsRunFrom guest ranges first from (history_at s.files) (log_at s.map) cs ls) where
   -- the line of the call
   abbrev pub its_line : Numbered
   its_line = record { call = n; line = l }
@@ -135,7 +135,7 @@ module _ (guest ranges : ℕ) (first : ℕ → First) (from : ℕ → ℕ) (s t 
       let told : d.answer ≡ answer (bytes (first f) (h f) (length (h f))) m.to.op = k.answered ∙ (λ i. answer (bytes (firsts f i) (sym here i) (length (sym here i))) m.to.op) in
       let came : FitsWay ranges (first f) (history_at t.files f) (log_at t.map f) (IsSeenBefore cs ls f (length cs)) (length (h f)) m.to.op m.way =
       subst (λ (z : ℕ × First × ℕ). FitsWay z.0 z.1 (history_at t.files f) (log_at t.map f) (IsSeenBefore cs ls f (length cs)) z.2 m.to.op m.way) (λ i. (count i, (k.first ∙ firsts f) i, place i))
-      (fits (range_count s.map) (log_at t.map f) (file_at s.files f) (file_at t.files f) (IsSeenBefore cs ls f (length cs)) m.to.op d.place m.way (not_passed f) m.came) in
+      (fits (KeepsSizes s.files) (range_count s.map) (log_at t.map f) (file_at s.files f) (file_at t.files f) (IsSeenBefore cs ls f (length cs)) m.to.op d.place m.way (not_passed f) sizes m.came) in
       one_more guest ranges first from h (history_at t.files) (log_at t.map) cs ls c m.to m.way its_line
       (seen_on guest ranges first from (history_at s.files) h (log_at s.map) (log_at t.map) cs ls (goes_one guest (history_at s.files) f k.more (theirs k.more k.others)) keeps.map.logs run)
       m.asks came

@@ -95,12 +95,12 @@ history_at v f = (file_at v f).history
 
 -- ---- what comes of a call
 
--- how an operation of a guest came to its file, by what it is
-unfoldable pub CameBy : ℕ → List LogEntry → FileView → FileView → Op → ℕ → Way → Type 0
-CameBy ranges log old new (ops.Read off len) place way = IsReadWay ranges log off len way
-CameBy ranges log old new (ops.Write off bytes) place way = IsWriteWay ranges log old new place off (length bytes) way
-CameBy ranges log old new (ops.Truncate size) place way = way ≡ ways.Req
-CameBy ranges log old new ops.Size place way = way ≡ ways.Req
+-- how an operation of a guest came to its file, by what it is; of a noted size where the board keeps it
+unfoldable pub CameBy : Type 0 → ℕ → List LogEntry → FileView → FileView → Op → ℕ → Way → Type 0
+CameBy keeps ranges log old new (ops.Read off len) place way = IsReadWay ranges log off len way
+CameBy keeps ranges log old new (ops.Write off bytes) place way = IsWriteWay keeps ranges log old new place off (length bytes) way
+CameBy keeps ranges log old new (ops.Truncate size) place way = way ≡ ways.Req
+CameBy keeps ranges log old new ops.Size place way = way ≡ ways.Req
 
 -- The n-th call was done: others' entries came first, then its one entry.
 pub record IsMade (old : Stand) (n : ℕ) (c : Call) (d : Done) (new : Stand) : Type 0 where
@@ -108,7 +108,7 @@ pub record IsMade (old : Stand) (n : ℕ) (c : Call) (d : Done) (new : Stand) : 
   pub way : Way
   pub asks : asked c ≡ Some to
   pub directs : Directs old.files to.file n way to.op d new.files
-  pub came : CameBy (range_count old.map) (log_at new.map to.file) (file_at old.files to.file) (file_at new.files to.file) to.op d.place way
+  pub came : CameBy (KeepsSizes old.files) (range_count old.map) (log_at new.map to.file) (file_at old.files to.file) (file_at new.files to.file) to.op d.place way
 
 -- It wasn't, since no range could be taken.
 pub record IsStuck (old : Stand) (c : Call) (looked : List Look) (new : Stand) : Type 0 where

@@ -8,10 +8,10 @@ pub returns-in-Read-clause-comes : goal.returns-in-Read-clause-comes
 returns-in-Read-clause-comes g c = rw c.in-Read.is (comes_read _ _ _ _ _ _ _ c.requires.idle.honest c.read.ensures.reads)
 
 pub returns-in-Write-clause-comes : goal.returns-in-Write-clause-comes
-returns-in-Write-clause-comes g c = rw c.in-Write.is (comes_written _ _ _ _ _ _ _ _ c.as_slice.ensures c.requires.idle.sizes c.requires.idle.honest c.write.ensures.writes)
+returns-in-Write-clause-comes g c = rw c.in-Write.is (comes_written _ _ _ _ _ _ _ _ c.as_slice.ensures c.requires.idle.honest c.write.ensures.writes)
 
 pub returns-in-Ok-clause-comes : goal.returns-in-Ok-clause-comes
-returns-in-Ok-clause-comes g c = rw c.in-Fill.is (comes_filled _ _ _ _ _ _ _ _ _ (c.as_slice-in-Ok.ensures.value ∙ c.in-Ok.ensures {u = tt}) c.requires.idle.sizes c.requires.idle.honest c.write-in-Ok.ensures.writes)
+returns-in-Ok-clause-comes g c = rw c.in-Fill.is (comes_filled _ _ _ _ _ _ _ _ _ (c.as_slice-in-Ok.ensures.value ∙ c.in-Ok.ensures {u = tt}) c.requires.idle.honest c.write-in-Ok.ensures.writes)
 
 pub returns-in-Err-clause-leaves : goal.returns-in-Err-clause-leaves
 returns-in-Err-clause-leaves g c = LeavesAll-same (stand (g.W.Wire.wire c.args.guest.now.dax.driver.wire) (g.F.FileBoard.board c.args.guest.now.dax.files) (g.R.MapBoard.map c.args.guest.now.dax.ranges))

@@ -60,7 +60,7 @@ loop-call-preserved g c =
     let line = c.in_ok-line.line in
     let e = c.in_ok-line.ensures in
     let numbered : Numbered = record { call = c.loop-call.number; line = line } in
-    let run = one_told u.files.guest (range_count u.map) (first_at u.files) (λ f. length (history_at u.files f)) s t (take i all) c.loop-call.lines call c.loop-call.number line (inv.number ∙ sym (take_count all i call at)) inv.leaves.files.guest inv.leaves.map.count inv.leaves.files.firsts e.leaves inv.run e.tells in
+    let run = one_told u.files.guest (range_count u.map) (first_at u.files) (λ f. length (history_at u.files f)) s t (take i all) c.loop-call.lines call c.loop-call.number line (inv.number ∙ sym (take_count all i call at)) inv.leaves.files.guest inv.leaves.map.count inv.leaves.files.firsts inv.idle.sizes e.leaves inv.run e.tells in
     record {
       number = ap (λ (n : ℕ). n + 1) inv.number;
       idle = e.idle;
