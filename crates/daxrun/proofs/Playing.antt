@@ -1,16 +1,18 @@
 -- From the run of the guest to the whole transcript.
 use Rattle.std.proofs.Common.{◌≡◌, ◌≢◌, ◌∙◌, ap, sym, subst, refl, ℕ, zero, suc, ◌+◌, ◌*◌, ◌<◌, ◌≤◌, ◌&&◌, Bool, true, false, true≢false, List, [], ◌∷◌, ◌++◌, length, map, take, replicate, get_or, slice_get, slice_index_or, Option, Some, None, arith, length-append}
-use Rattle.std.specs.Prelude.{sum}
+use Rattle.std.specs.Prelude.{All, sum}
+use Rattle.std.proofs.lemmas.Option.{slice_get-get_or}
 use Rattle.std.proofs.lemmas.List.{length-replicate, length-map}
 use Rattle.plain_file.specs.declared.operations.Entry.{Entry}
 use Rattle.plain_file.specs.declared.operations.First.{First}
 use Rattle.plain_file.specs.Limits.{max_files}
-use Rattle.plain_file.specs.Plain.{new_board, new_file}
-use Rattle.plain_file.specs.Board.{BoardView, no_file}
+use Rattle.plain_file.specs.Plain.{new_board, new_file, IsAllOf}
+use Rattle.plain_file.specs.Board.{FileView, BoardView, no_file}
+use Rattle.page_map.specs.declared.pages.Page.{Page}
 use Rattle.page_map.specs.declared.ranges.LogEntry.{LogEntry}
 use Rattle.page_map.specs.Board.{MapView, log_at}
 use Rattle.page_map.specs.Plain.{new_map, range_pages}
-use Rattle.page_map.specs.Logs.{Slot, sound, sound_from, next_slots}
+use Rattle.page_map.specs.Logs.{Slot, sound, sound_from, may_follow, next_slots}
 use Rattle.range_tree.specs.Plain.{new_ranges}
 use Rattle.range_tree.specs.Ranges.{range_count, max_pins, IsSoundRanges}
 use Rattle.range_tree.specs.Logs.{first_unsound, unsound_at}
@@ -18,7 +20,7 @@ use Rattle.fuse_device.specs.State.{State, new_state}
 use Rattle.fuse_device.specs.OpenFiles.{HasOpenFile}
 use Rattle.fuse_device.specs.Promises.{IsServable, world}
 use Rattle.fuse_device.proofs.Servable.{servable_at_start}
-use Rattle.guest_wire.specs.Wires.{WireView, boards}
+use Rattle.guest_wire.specs.Wires.{WireView, KeepsWire, boards}
 use Rattle.guest_wire.specs.declared.driver.FileRef.{FileRef}
 use Rattle.guest_dax.specs.Stands.{Stand, stand, IsServing, Stands, ref_at, no_ref}
 use Rattle.guest_io.specs.Requests.{IsHome}
@@ -42,10 +44,10 @@ use Rattle.daxrun.specs.Session.{IsOpened, AreOpen, empty_firsts, firsts_of}
 -- ---- a session over empty files
 
 pub servable_new : (pages : ℕ) (fs : List FileLine) (s : State) (v : BoardView) (m : MapView) → s ≡ new_state pages (names_of fs) → v ≡ new_board 0 empty_firsts → m ≡ new_map pages → length fs ≤ max_files → IsServable (world s v m)
-servable_new pages fs s v m state files map few =
+servable_new pages fs s v m state files window few =
     let names : length (names_of fs) ≤ 16 = omega (arith, map_len (λ (f : FileLine). f.name) fs) in
-    let enough : 16 ≤ length empty_firsts = omega (arith, length-replicate max_files (record { size = 0; fill = 0 })) in
-    rw (state, files, map) (servable_at_start 0 pages (names_of fs) empty_firsts names enough)
+    let enough : 16 ≤ length empty_firsts = omega (arith, length-replicate {A = First} max_files (record { size = 0; fill = 0 })) in
+    rw (state, files, window) (servable_at_start 0 pages (names_of fs) empty_firsts names enough)
 
 -- ---- a board on which nothing was done
 
@@ -84,16 +86,16 @@ ref_is [] i lt = absurd (omega arith)
 ref_is (a ∷ ats) zero lt = refl
 ref_is (a ∷ ats) (suc i) lt = ref_is ats i (omega arith)
 
+abbrev no_page : Option (Option Page)
+no_page = Some None
+
 -- the guest of an opened session, with ranges of its own
-pub idle_new : (ranges : ℕ) (fs : List FileLine) (ats : List FileRef) (w : WireView) (files : BoardView) (map : MapView) (opened : BoardView) (pages : MapView) → AreRanges ranges → length ats ≡ length fs → IsOpened (names_of fs) ats w (boards opened pages) → pages ≡ new_map (range_pages * ranges)
-    → files ≡ new_board 0 (firsts_of fs) → map ≡ new_ranges ranges (length fs) 0 → IsIdle (stand w files map) ats
-idle_new ranges fs ats w files map opened pages some count o window board ranged =
+pub idle_new : (ranges : ℕ) (fs : List FileLine) (ats : List FileRef) (w : WireView) (files : BoardView) (window : MapView) (opened : BoardView) (pages : MapView) → AreRanges ranges → length ats ≡ length fs → IsOpened (names_of fs) ats w (boards opened pages) → length pages.table ≡ range_pages * ranges
+    → files ≡ new_board 0 (firsts_of fs) → window ≡ new_ranges ranges (length fs) 0 → IsIdle (stand w files window) ats
+idle_new ranges fs ats w files window opened pages some count o wide_pages board ranged =
     let live = o.live in
     let made : length w.state.made ≡ length fs = sym (map_len (λ f. f.name) w.state.made) ∙ ap length o.session.named ∙ map_len Some (names_of fs) ∙ map_len (λ (f : FileLine). f.name) fs in
-    let wide : length (new_ranges ranges (length fs) 0).table ≡ w.state.pages =
-    length-replicate (range_pages * ranges) (Some None)
-    ∙ sym (ap (λ (m : MapView). length m.table) window ∙ length-map (replicate (range_pages * ranges) None) (λ p. Some p) ∙ length-replicate (range_pages * ranges) None)
-    ∙ live.servable.pages in
+    let wide : length (new_ranges ranges (length fs) 0).table ≡ w.state.pages = length-replicate (range_pages * ranges) no_page ∙ sym wide_pages ∙ live.servable.pages in
     let none = no_sum ranges in
     let none' = no_sum (length fs) in
     let many = many_new fs in
@@ -131,12 +133,32 @@ idle_new ranges fs ats w files map opened pages some count o window board ranged
     leases_new : (gs : List FileLine) → sum (new_board 0 (firsts_of gs)).hands.leases ≡ 0
     leases_new gs = no_sum (length (firsts_of gs))
 
-pub alone_new : (ranges files : ℕ) (map : MapView) → AreRanges ranges → map ≡ new_ranges ranges files 0 → IsAlone map
-alone_new ranges files map some e = subst IsAlone (sym e) (record {
+pub alone_new : (ranges files : ℕ) (window : MapView) → AreRanges ranges → window ≡ new_ranges ranges files 0 → IsAlone window
+alone_new ranges files window some e = subst IsAlone (sym e) (record {
   alone = refl;
   count = λ one. some.not_one (sym (length-replicate ranges 0) ∙ one);
   unpinned = no_sum ranges;
 })
+
+-- the session's boards serve the client again
+pub live_after : (w w' : WireView) (files : BoardView) (window : MapView) (refs : List FileRef) (opened : BoardView) (pages : MapView) → KeepsWire w w' → IsIdle (stand w' files window) refs → length refs ≤ max_files → length window.table ≡ length pages.table → IsLive w (boards opened pages) → IsLive w' (boards opened pages)
+live_after w w' files window refs opened pages k idle few same live =
+    let serving = idle.home.stands.serving idle.honest in
+    let there = serving.there in
+    let count = idle.home.stands.refs_of in
+    record {
+      honest = idle.honest;
+      whole = k.stays ∙ live.whole;
+      alone = live.alone;
+      servable = record {
+        plain = live.servable.plain;
+        enough = live.servable.enough;
+        ready = live.servable.ready;
+        few = omega (arith, there, count, few);
+        free = live.servable.free;
+        pages = sym same ∙ serving.pages;
+      };
+    }
 
 -- ---- the guest's part
 
@@ -155,6 +177,16 @@ one_part P gs calls parts part one there e is zero cs p at at' =
     subst (λ (z : List Call × GuestPart). P 0 z.0 z.1) (λ i. (c i, q i)) is
 one_part P gs calls parts part one there e is (suc g) cs p at at' = let w = within gs (suc g) cs at in absurd (omega arith)
 
+-- all entries of a plain board are its guest's
+pub all_ours : (guest : ℕ) (files : List FileView) (f p : ℕ) (e : Entry) → All (IsAllOf guest) files → slice_get (slice_index_or files f no_file).history p ≡ Some e → e.guest ≡ guest
+all_ours guest [] f p e own at = absurd (none_is e at)
+all_ours guest (v ∷ files) zero p e own at =
+    let lt = within v.history p e at in
+    let all : IsAllOf guest v = own zero no_file (omega arith) in
+    let is : get_or v.history p e ≡ e = some_is (get_or v.history p e) e (sym (slice_get-get_or v.history p e lt) ∙ at) in
+    subst (λ (x : Entry). x.guest ≡ guest) is (all p e lt)
+all_ours guest (v ∷ files) (suc f) p e own at = all_ours guest files f p e (λ k d lt. own (suc k) d (omega (arith, lt))) at
+
 -- ---- the files' parts
 
 pub parts_more : (h : ℕ → List Entry) (logs : ℕ → List LogEntry) (n : ℕ) (fs : List FileLine) (f : FileLine) → parts_from h logs n (fs ++ f ∷ []) ≡ parts_from h logs n fs ++ part_of h logs (n + length fs) f ∷ []
@@ -170,7 +202,7 @@ both_true false b h = absurd (true≢false (sym h))
 none_unsound : (ranges n : ℕ) (slots : List Slot) (log : List LogEntry) → sound_from ranges n slots log ≡ true → first_unsound ranges n slots log ≡ None
 unfolding sound_from first_unsound
 none_unsound ranges n slots [] h = refl
-none_unsound ranges n slots (e ∷ es) h = let k = both_true _ _ h in rw k.0 (none_unsound ranges (n + 1) (next_slots n slots e) es k.1)
+none_unsound ranges n slots (e ∷ es) h = let k = both_true (may_follow ranges slots e) (sound_from ranges (n + 1) (next_slots n slots e) es) h in rw k.0 (none_unsound ranges (n + 1) (next_slots n slots e) es k.1)
 
 -- a sound log is one without an unsound entry
 pub sound_log : (ranges : ℕ) (log : List LogEntry) → sound ranges log ≡ true → unsound_at ranges log ≡ None
@@ -190,10 +222,10 @@ asked_within files (calls.Load hold off len) a is e = absurd is
 asked_within files (calls.Store hold off xs) a is e = absurd is
 asked_within files (calls.Release hold) a is e = absurd is
 
-pub played_legal : (s : Script) (t : Transcript) (v w : BoardView) (map : MapView) → IsPlayable s → t.ranges ≡ s.ranges → v ≡ new_board 0 (firsts_of s.files) → t.files ≡ parts_from (history_at w) (log_at map) 0 s.files → length t.guests ≡ length s.guests
-    → ((g : ℕ) (cs : List Call) (part : GuestPart) → slice_get s.guests g ≡ Some cs → slice_get t.guests g ≡ Some part → IsPart s.ranges (first_at v) (history_at w) (log_at map) g cs part)
-    → ((f p : ℕ) (e : Entry) → slice_get (history_at w f) p ≡ Some e → e.guest < length s.guests) → ((f : ℕ) → f < length s.files → unsound_at s.ranges (log_at map f) ≡ None) → IsLegal s t
-played_legal s t v w map h ranges board files count guests known logs = legal (first_at v) (history_at w) (log_at map) s t (record {
+pub played_legal : (s : Script) (t : Transcript) (v w : BoardView) (window : MapView) → IsPlayable s → t.ranges ≡ s.ranges → v ≡ new_board 0 (firsts_of s.files) → t.files ≡ parts_from (history_at w) (log_at window) 0 s.files → length t.guests ≡ length s.guests
+    → ((g : ℕ) (cs : List Call) (part : GuestPart) → slice_get s.guests g ≡ Some cs → slice_get t.guests g ≡ Some part → IsPart s.ranges (first_at v) (history_at w) (log_at window) g cs part)
+    → ((f p : ℕ) (e : Entry) → slice_get (history_at w f) p ≡ Some e → e.guest < length s.guests) → ((f : ℕ) → f < length s.files → unsound_at s.ranges (log_at window f) ≡ None) → IsLegal s t
+played_legal s t v w window h ranges board files count guests known logs = legal (first_at v) (history_at w) (log_at window) s t (record {
   ranges = ranges;
   firsts = firsts_new s.files v board;
   files = files;

@@ -11,6 +11,12 @@ use Rattle.guest_wire.specs.declared.driver.FileRef.{FileRef}
 use Rattle.guest_wire.specs.Wires.{WireView, Boards}
 use Rattle.dax_script.specs.declared.scripts.FileLine.{FileLine}
 use Rattle.daxrun.specs.Requests.{IsLive}
+use Rattle.plain_file.specs.declared.operations.Entry.{Entry}
+use Rattle.page_map.specs.declared.ranges.LogEntry.{LogEntry}
+use Rattle.dax_script.specs.declared.scripts.Call.{Call}
+use Rattle.dax_script.specs.declared.scripts.Script.{Script}
+use Rattle.transcript_text.specs.declared.transcripts.GuestPart.{GuestPart}
+use Rattle.guest_run.specs.Runs.{IsPart}
 
 -- a session over files of these names, of which so many were opened
 pub record IsSession (names : List (List ℕ)) (count : ℕ) (s : State) : Type 0 where
@@ -47,3 +53,7 @@ empty_firsts = replicate max_files (record { size = 0; fill = 0 })
 -- what the files of a run begin with
 abbrev pub firsts_of : List FileLine → List First
 firsts_of fs = map (λ f. f.first) fs
+
+-- the parts of all guests of a script are those of runs
+abbrev pub AreParts : Script → (ℕ → First) → (ℕ → List Entry) → (ℕ → List LogEntry) → List GuestPart → Type 0
+AreParts s first h logs parts = (g : ℕ) (cs : List Call) (part : GuestPart) → slice_get s.guests g ≡ Some cs → slice_get parts g ≡ Some part → IsPart s.ranges first h logs g cs part

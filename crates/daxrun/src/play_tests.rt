@@ -1,7 +1,7 @@
-ghost use Rattle.std.specs.Prelude.{◌≡◌, true, false, IfSome};
+ghost use Rattle.std.specs.Prelude.{◌≡◌, [], IfSome};
 ghost use Rattle.daxrun.specs.Carried.{IsPlayable};
 
-use crate::plays::{guest_of, play_guests};
+use crate::plays::play_calls;
 use crate::run_tests::{FOUR, RECLAIM, UPGRADE};
 use crate::runs::is_carried_out;
 use crate::sessions::{daemon_of, end_session, opening_board, start_session};
@@ -35,14 +35,13 @@ fn session<R: Wait>(rt: &R, alloc: Global, script: &Script) -> Result<List<Blob>
 {
     let mut daemon = daemon_of(alloc, script)?;
     let solo = SoloWire::new(alloc, &mut daemon)?;
-    let mut client = Driver::new(KeepWire::new(alloc, solo));
+    let client = Driver::new(KeepWire::new(alloc, solo));
     let mut files = opening_board(alloc)?;
     let mut map = PageMap::new(alloc, PAGES_OF_RANGE * script.ranges)?;
     let lines = script.files.as_slice();
-    let opened = start_session(rt, alloc, &mut client, lines, &mut files, &mut map)?;
-    let handles = opened.as_slice();
-    end_session(rt, alloc, &mut client, handles, &mut files, &mut map);
-    copies(alloc, client.wire.requests().as_slice())
+    let (client, opened) = start_session(rt, alloc, client, lines, &mut files, &mut map)?;
+    let client = end_session(rt, alloc, client, opened.as_slice(), &mut files, &mut map);
+    kept_by(alloc, &client)
 }
 
 // The requests of the calls of a script's guest.
@@ -50,18 +49,29 @@ fn calls<R: Wait>(rt: &R, alloc: Global, script: &Script) -> Result<List<Blob>, 
     requires { IsPlayable script.now }
 {
     let mut daemon = daemon_of(alloc, script)?;
-    let mut client = Driver::new(SoloWire::new(alloc, &mut daemon)?);
+    let client = Driver::new(SoloWire::new(alloc, &mut daemon)?);
     let mut files = opening_board(alloc)?;
     let mut map = PageMap::new(alloc, PAGES_OF_RANGE * script.ranges)?;
     let lines = script.files.as_slice();
-    let opened = start_session(rt, alloc, &mut client, lines, &mut files, &mut map)?;
-    let client = Driver {
-        wire: KeepWire::new(alloc, client.wire),
-        unique: client.unique,
-    };
-    let mut guest = guest_of(alloc, lines, script.ranges, client, opened)?;
-    play_guests(rt, alloc, &mut guest, script.guests.as_slice())?;
-    copies(alloc, guest.dax.driver.wire.requests().as_slice())
+    let (client, opened) = start_session(rt, alloc, client, lines, &mut files, &mut map)?;
+    let client = keeping(alloc, client);
+    let played = play_calls(rt, alloc, script, client, opened.as_slice())?;
+    kept_by(alloc, &played.client)
+}
+
+// The client, over a wire that keeps the requests from here on.
+fn keeping<W>(alloc: Global, client: Driver<W>) -> Driver<KeepWire<W>>
+    ensures { result.wire ≡ record { inner = client.wire; requests = [] } }
+{
+    let Driver { wire, unique } = client;
+    Driver {
+        wire: KeepWire::new(alloc, wire),
+        unique,
+    }
+}
+
+fn kept_by<W>(alloc: Global, client: &Driver<KeepWire<W>>) -> Result<List<Blob>, Memory> {
+    copies(alloc, client.wire.requests().as_slice())
 }
 
 fn copies(alloc: Global, requests: &[Blob]) -> Result<List<Blob>, Memory> {

@@ -8,6 +8,7 @@ ghost use Rattle.page_map.specs.Board.{MapView, log_at, known_files};
 ghost use Rattle.range_tree.specs.Plain.{new_ranges};
 ghost use Rattle.range_tree.specs.Ranges.{range_count};
 ghost use Rattle.fuse_device.specs.State.{new_state};
+ghost use Rattle.guest_wire.specs.Wires.{Boards, KeepsWire};
 ghost use Rattle.guest_dax.specs.Stands.{stand};
 ghost use Rattle.dax_script.specs.declared.scripts.Call.{Call};
 ghost use Rattle.dax_script.specs.ScriptWords.{is_script_name};
@@ -19,7 +20,7 @@ ghost use Rattle.guest_run.specs.Runs.{IsPart, entry_line, file_part, parts_from
 ghost use Rattle.guest_run.specs.Working.{IsIdle, IsAlone, AllDone, first_at, history_at};
 ghost use Rattle.daxrun.specs.Carried.{names_of, AreFiles, AreGuests, AreRanges, IsPlayable};
 ghost use Rattle.daxrun.specs.Run.{AllLinesDone};
-ghost use Rattle.daxrun.specs.Session.{firsts_of};
+ghost use Rattle.daxrun.specs.Session.{IsOpened, AreParts, firsts_of};
 
 use crate::sessions::{board_of, end_session, opening_board, start_session};
 use daemon_core::Daemon;
@@ -56,16 +57,20 @@ pub fn play<R: Wait>(
     let lines = script.files.as_slice();
     let mut files = opening_board(alloc)?;
     let mut map = PageMap::new(alloc, PAGES_OF_RANGE * script.ranges)?;
-    let mut client = Driver::new(SoloWire::new(alloc, daemon)?);
-    let opened = start_session(rt, alloc, &mut client, lines, &mut files, &mut map)?;
-    let mut guest = guest_of(alloc, lines, script.ranges, client, opened)?;
-    let guests = play_guests(rt, alloc, &mut guest, script.guests.as_slice())?;
-    let mut dax = guest.finish();
-    let handles = dax.refs.as_slice();
-    end_session(rt, alloc, &mut dax.driver, handles, &mut files, &mut map);
-    dax.ranges.sound_ranges();
-    let parts = file_parts(alloc, lines, &dax.files, &dax.ranges)?;
-    forget(dax);
+    let client = Driver::new(SoloWire::new(alloc, daemon)?);
+    let (client, opened) = start_session(rt, alloc, client, lines, &mut files, &mut map)?;
+    let handles = opened.as_slice();
+    let played = play_calls(rt, alloc, script, client, handles)?;
+    let Played {
+        client,
+        files: board,
+        ranges,
+        guests,
+    } = played;
+    let _client = end_session(rt, alloc, client, handles, &mut files, &mut map);
+    ranges.sound_ranges();
+    let parts = file_parts(alloc, lines, &board, &ranges)?;
+    forget(board);
     Ok(Transcript {
         version: 1,
         ranges: script.ranges,
@@ -74,13 +79,62 @@ pub fn play<R: Wait>(
     })
 }
 
-/// Guest 0 with these open files, and with ranges of which none was taken.
-pub fn guest_of<W>(
+/// What is left when a script's calls are made: the client, the boards, and what is told of each guest.
+#[derive(Drop)]
+pub struct Played<W> {
+    /// The client.
+    pub client: Driver<W>,
+    /// The files.
+    pub files: PlainFiles,
+    /// The ranges.
+    pub ranges: PlainRanges,
+    /// The guests' lines.
+    pub guests: List<GuestPart>,
+}
+
+/// Makes the calls of a script by a guest with these open files, on ranges of its own.
+pub fn play_calls<R: Wait, W>(
+    rt: &R,
+    alloc: Global,
+    script: &Script,
+    client: Driver<W>,
+    opened: &[FileRef],
+) -> Result<Played<W>, Memory>
+where
+    W: Wire<PlainFiles, PlainRanges> + Drop,
+    requires playable { IsPlayable script.now }
+    requires count { length opened.now ≡ length script.now.files }
+    requires opened { (b : Boards) × IsOpened (names_of script.now.files) opened.now (W.wire client.wire) b × (length b.map.table ≡ range_pages * script.now.ranges) }
+    ensures idle { IfOk result (λ p. IsIdle (stand (W.wire p.client.wire) p.files p.ranges) opened.now) }
+    ensures wire { IfOk result (λ p. KeepsWire (W.wire client.wire) (W.wire p.client.wire)) }
+    ensures pages { IfOk result (λ p. length p.ranges.table ≡ range_pages * script.now.ranges) }
+    ensures ranges { IfOk result (λ p. range_count p.ranges ≡ script.now.ranges) }
+    ensures count { IfOk result (λ p. length p.guests ≡ length script.now.guests) }
+    ensures parts { IfOk result (λ p. AreParts script.now (first_at (new_board 0 (firsts_of script.now.files))) (history_at p.files) (log_at p.ranges) p.guests) }
+    ensures done { IfOk result (λ p. (g : ℕ) (part : GuestPart) → slice_get p.guests g ≡ Some part → AllDone part.lines) }
+    ensures printable { IfOk result (λ p. AllByRecursion IsPrintableGuest p.guests) }
+    ensures number { IfOk result (λ p. p.files.guest ≡ 0) }
+    ensures known { IfOk result (λ p. (f n : ℕ) (e : Entry) → slice_get (history_at p.files f) n ≡ Some e → 0 < length script.now.guests) }
+{
+    let lines = script.files.as_slice();
+    let mut guest = guest_of(alloc, lines, script.ranges, client, opened)?;
+    let guests = play_guests(rt, alloc, &mut guest, script.guests.as_slice())?;
+    let (client, files, ranges) = guest.finish().into_parts();
+    Ok(Played {
+        client,
+        files,
+        ranges,
+        guests,
+    })
+}
+
+// Guest 0 with these open files, and with ranges of which none was taken.
+fn guest_of<W>(
     alloc: Global,
     files: &[FileLine],
     ranges: u32,
     client: Driver<W>,
-    opened: Vec<FileRef>,
+    opened: &[FileRef],
 ) -> Result<Guest<W, PlainFiles, PlainRanges>, Memory>
 where
     W: Drop,
@@ -89,16 +143,16 @@ where
     ensures driver { IfOk result (λ g. g.dax.driver ≡ client) }
     ensures files { IfOk result (λ g. g.dax.files ≡ new_board 0 (firsts_of files.now)) }
     ensures ranges { IfOk result (λ g. g.dax.ranges ≡ new_ranges ranges (length files.now) 0) }
-    ensures refs { IfOk result (λ g. g.dax.refs ≡ opened.items) }
+    ensures refs { IfOk result (λ g. g.dax.refs ≡ opened.now) }
 {
     let board = board_of(alloc, files)?;
     let ranges = PlainRanges::new(alloc, ranges, files.len() as u32, 0)?;
-    let dax = Dax::new(client, board, ranges, List::from_vec(opened));
-    Ok(Guest::new(dax))
+    let refs = List::from_vec(Vec::from_slice(alloc, opened)?);
+    Ok(Guest::new(Dax::new(client, board, ranges, refs)))
 }
 
-/// Makes the calls of the first guest, where there is one, and tells its lines.
-pub fn play_guests<R: Wait, W>(
+// Makes the calls of the first guest, where there is one, and tells its lines.
+fn play_guests<R: Wait, W>(
     rt: &R,
     alloc: Global,
     guest: &mut Guest<W, PlainFiles, PlainRanges>,
@@ -117,7 +171,7 @@ where
         → IsPart (range_count guest.old.dax.ranges) (first_at guest.old.dax.files) (history_at guest.new.dax.files) (log_at guest.new.dax.ranges) g cs part) }
     ensures done { IsAlone guest.old.dax.ranges → IfOk result (λ parts. (g : ℕ) (part : GuestPart) → slice_get parts g ≡ Some part → AllDone part.lines) }
     ensures printable { IfOk result (AllByRecursion IsPrintableGuest) }
-    ensures known { OnOk result ((f p : ℕ) (e : Entry) → slice_get (history_at guest.new.dax.files f) p ≡ Some e → e.guest < length guests.now) }
+    ensures known { OnOk result ((f p : ℕ) (e : Entry) → slice_get (history_at guest.new.dax.files f) p ≡ Some e → 0 < length guests.now) }
     ensures refs { guest.new.dax.refs ≡ guest.old.dax.refs }
 {
     let mut parts = List::new(alloc);
@@ -203,10 +257,17 @@ fn log_copy(alloc: Global, log: &[LogEntry]) -> Result<List<LogEntry>, Memory>
 {
     let mut copy = List::from_vec(Vec::with_capacity(alloc, log.len())?);
     for entry in log {
-        sound_log(*entry);
-        copy.push(*entry)?;
+        copy.push(log_entry(entry))?;
     }
     Ok(copy)
+}
+
+fn log_entry(entry: &LogEntry) -> LogEntry
+    ensures value { result ≡ entry.now }
+    ensures printable { IsPrintableLog result }
+{
+    sound_log(*entry);
+    *entry
 }
 
 // Does nothing. That is how a proof knows that its numbers are within their fields.

@@ -74,27 +74,28 @@ fn firsts_of(alloc: Global, files: &[FileLine]) -> Result<List<First>, Memory>
 pub fn start_session<R: Wait, W>(
     rt: &R,
     alloc: Global,
-    client: &mut Driver<W>,
+    client: Driver<W>,
     named: &[FileLine],
     files: &mut PlainFiles,
     map: &mut PageMap,
-) -> Result<Vec<FileRef>, Memory>
+) -> Result<(Driver<W>, Vec<FileRef>), Memory>
 where
-    W: Wire<PlainFiles, PageMap>,
-    requires live { IsLive (W.wire client.old.wire) (boards files.old map.old) }
-    requires new { (W.wire client.old.wire).state ≡ new_state (length map.old.table) (names_of named.now) }
+    W: Wire<PlainFiles, PageMap> + Drop,
+    requires live { IsLive (W.wire client.wire) (boards files.old map.old) }
+    requires new { (W.wire client.wire).state ≡ new_state (length map.old.table) (names_of named.now) }
     requires few { length named.now ≤ max_files }
     requires different { IsDistinct bytes_eq (names_of named.now) }
     requires small { AreSmall files.old }
-    ensures count { IfOk result (λ ats. length ats.items ≡ length named.now) }
-    ensures opened { IfOk result (λ ats. IsOpened (names_of named.now) ats.items (W.wire client.new.wire) (boards files.new map.new)) }
+    ensures count { IfOk result (λ o. length o.1.items ≡ length named.now) }
+    ensures opened { IfOk result (λ o. IsOpened (names_of named.now) o.1.items (W.wire o.0.wire) (boards files.new map.new)) }
     ensures files { OnOk result (files.new ≡ files.old) }
     ensures map { OnOk result (map.new ≡ map.old) }
 {
+    let mut client = client;
     let ask_map = map.pages() > 0;
-    begin(rt, alloc, client, ask_map, files, map)?;
-    let opened = open_files(rt, alloc, client, named, files, map)?;
-    Ok(opened)
+    begin(rt, alloc, &mut client, ask_map, files, map)?;
+    let opened = open_files(rt, alloc, &mut client, named, files, map)?;
+    Ok((client, opened))
 }
 
 fn open_files<R: Wait, W>(
@@ -157,19 +158,21 @@ where
 pub fn end_session<R: Wait, W>(
     rt: &R,
     alloc: Global,
-    client: &mut Driver<W>,
+    client: Driver<W>,
     opened: &[FileRef],
     files: &mut PlainFiles,
     map: &mut PageMap,
-)
+) -> Driver<W>
 where
     W: Wire<PlainFiles, PageMap>,
-    requires live { IsLive (W.wire client.old.wire) (boards files.old map.old) }
+    requires { IsLive (W.wire client.wire) (boards files.old map.old) }
 {
+    let mut client = client;
     for at in opened {
-        close_file(rt, alloc, client, *at, files, map);
+        close_file(rt, alloc, &mut client, *at, files, map);
     }
     let _answer = client.destroy(rt, alloc, files, map);
+    client
 }
 
 // Gives back a handle: RELEASE.
@@ -183,8 +186,8 @@ fn close_file<R: Wait, W>(
 )
 where
     W: Wire<PlainFiles, PageMap>,
-    requires live { IsLive (W.wire client.old.wire) (boards files.old map.old) }
-    ensures live { IsLive (W.wire client.new.wire) (boards files.new map.new) }
+    requires { IsLive (W.wire client.old.wire) (boards files.old map.old) }
+    ensures { IsLive (W.wire client.new.wire) (boards files.new map.new) }
 {
     let _answer = client.release(rt, alloc, at, files, map);
 }

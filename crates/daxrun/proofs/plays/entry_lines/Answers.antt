@@ -2,7 +2,7 @@ use Rattle.std.proofs.Common.{◌≡◌, ◌∙◌, sym, subst, ◌<◌, ◌++�
 use Rattle.std.specs.List.{AllByRecursion}
 use Rattle.transcript_text.specs.declared.transcripts.EntryLine.{EntryLine}
 use Rattle.transcript_text.specs.TranscriptReading.{IsPrintableEntry}
-use Rattle.daxrun.specs.Guest.{entry_line}
+use Rattle.guest_run.specs.Runs.{entry_line}
 use Rattle.guest_run.proofs.Places.{at_index, all_push}
 use Rattle.daxrun.proofs.Playing.{mapped_more}
 use Rattle.daxrun.proofs.plays.entry_lines.Goals as goal

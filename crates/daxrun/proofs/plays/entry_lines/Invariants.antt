@@ -1,7 +1,7 @@
 use Rattle.std.proofs.Common.{◌≡◌, map, take}
 use Rattle.std.specs.List.{AllByRecursion}
 use Rattle.transcript_text.specs.TranscriptReading.{IsPrintableEntry}
-use Rattle.daxrun.specs.Guest.{entry_line}
+use Rattle.guest_run.specs.Runs.{entry_line}
 use Rattle.daxrun.proofs.plays.entry_lines.Given as goal
 
 abbrev pub invariant-loop-entry : goal.invariant-loop-entry

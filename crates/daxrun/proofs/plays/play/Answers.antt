@@ -1,46 +1,47 @@
-use Rattle.std.proofs.Common.{◌≡◌, ◌∙◌, ap, subst, refl, ◌<◌, List, length, slice_get}
+use Rattle.std.proofs.Common.{◌≡◌, ◌∙◌, ap, sym, subst, refl, ℕ, ◌*◌, ◌<◌, List, length, slice_get, Some, true, arith}
+use Rattle.plain_file.specs.declared.operations.Entry.{Entry}
 use Rattle.plain_file.specs.Plain.{new_board}
 use Rattle.plain_file.specs.Board.{BoardView}
-use Rattle.dax_script.specs.declared.scripts.Call.{Call}
+use Rattle.page_map.specs.Board.{MapView, log_at}
+use Rattle.page_map.specs.Plain.{range_pages}
+use Rattle.page_map.specs.Logs.{sound}
+use Rattle.range_tree.specs.Ranges.{range_count}
+use Rattle.guest_wire.specs.Wires.{WireView}
+use Rattle.dax_host.specs.Solo.{solo_wire}
 use Rattle.dax_script.specs.declared.scripts.FileLine.{FileLine}
-use Rattle.daxrun.specs.Guest.{parts_from}
-use Rattle.daxrun.specs.Session.{firsts_of, history_at}
-use Rattle.daxrun.proofs.Opening.{small_new}
-use Rattle.daxrun.proofs.Playing.{fresh_new, servable_new, played_legal}
+use Rattle.guest_run.specs.Runs.{parts_from}
+use Rattle.guest_run.specs.Working.{history_at}
+use Rattle.daxrun.specs.Session.{firsts_of, empty_firsts}
+use Rattle.daxrun.proofs.Opening.{small_new, empty_small}
+use Rattle.daxrun.proofs.Playing.{servable_new, played_legal, sound_log, all_ours}
 use Rattle.daxrun.proofs.plays.play.Goals as goal
 
-pub play_guests-requires-clause-live : goal.play_guests-requires-clause-live
-play_guests-requires-clause-live g c =
-    let fs = c.args.script.now.files in
-    let board : c.in_ok-files.files ≡ new_board 0 (firsts_of fs) = c.in_ok-files.ensures ∙ ap (λ (xs : List FileLine). new_board 0 (firsts_of xs)) c.as_slice-lines.ensures in
+pub start_session-requires-clause-live : goal.start_session-requires-clause-live
+start_session-requires-clause-live g c =
+    let s = c.args.script.now in
+    let state = ap (λ d. d.wire.daemon.now) c.new-client.ensures ∙ ap (λ (v : WireView). v.state) c.in_ok-new.ensures.wire ∙ c.requires.new in
     record {
-      honest = c.requires.honest;
-      whole = c.requires.whole;
-      alone = ap (λ (v : BoardView). v.over) board;
-      servable = servable_new fs _ c.in_ok-files.files c.in_ok-map.map c.requires.new board c.in_ok-map.ensures.new c.requires.playable.files.few;
+      honest = refl;
+      whole = refl;
+      alone = ap (λ (v : BoardView). v.over) c.in_ok-files.ensures;
+      servable = servable_new (range_pages * s.ranges) s.files _ c.in_ok-files.files c.in_ok-map.map state c.in_ok-files.ensures c.in_ok-map.ensures.new c.requires.playable.files.few;
     }
 
-pub play_guests-requires-clause-small : goal.play_guests-requires-clause-small
-play_guests-requires-clause-small g c =
-    let fs = c.args.script.now.files in
-    let board : c.in_ok-files.files ≡ new_board 0 (firsts_of fs) = c.in_ok-files.ensures ∙ ap (λ (xs : List FileLine). new_board 0 (firsts_of xs)) c.as_slice-lines.ensures in
-    small_new fs c.in_ok-files.files board c.requires.playable.files.small
-
-pub play_guests-requires-clause-fresh : goal.play_guests-requires-clause-fresh
-play_guests-requires-clause-fresh g c =
-    let fs = c.args.script.now.files in
-    let board : c.in_ok-files.files ≡ new_board 0 (firsts_of fs) = c.in_ok-files.ensures ∙ ap (λ (xs : List FileLine). new_board 0 (firsts_of xs)) c.as_slice-lines.ensures in
-    fresh_new fs c.in_ok-files.files board
+pub start_session-requires-clause-small : goal.start_session-requires-clause-small
+start_session-requires-clause-small g c = small_new empty_firsts c.in_ok-files.files c.in_ok-files.ensures (empty_small 16)
 
 pub returns-clause-legal : goal.returns-clause-legal
 returns-clause-legal g c =
     let s = c.args.script.now in
-    let v = c.in_ok-files.files in
-    let w = c.play_guests.new.files in
-    let board : v ≡ new_board 0 (firsts_of s.files) = c.in_ok-files.ensures ∙ ap (λ (xs : List FileLine). new_board 0 (firsts_of xs)) c.as_slice-lines.ensures in
-    let files = c.in_ok-parts.ensures.value ∙ ap (parts_from (history_at w) 0) c.as_slice-lines.ensures in
-    let gs : c.as_slice-guests.result.now ≡ s.guests = c.as_slice-guests.ensures in
-    played_legal s (record { version = 1; ranges = 0; files = c.in_ok-parts.parts; guests = c.in_ok-guests.guests }) v w c.requires.playable refl board files
-    (c.in_ok-guests.ensures.count ∙ ap length gs)
-    (λ n cs part at. c.in_ok-guests.ensures.parts n cs part (ap (λ (xs : List (List Call)). slice_get xs n) gs ∙ at))
-    (λ f p e at. subst (λ (xs : List (List Call)). e.guest < length xs) gs (c.in_ok-guests.ensures.known f p e at))
+    let p = c.in_ok-played.played in
+    let e = c.in_ok-played.ensures in
+    let files = c.in_ok-parts.ensures.value ∙ ap (parts_from (history_at p.files) (log_at p.ranges) 0) c.as_slice-lines.ensures in
+    let known : (f n : ℕ) (x : Entry) → slice_get (history_at p.files f) n ≡ Some x → x.guest < length s.guests = λ f n x at.
+    let some = e.known f n x at in
+    let ours = all_ours p.files.guest p.files.files f n x (rw (← c.board.view_is) c.board.invariant.own) at in
+    let zero = e.number in
+    omega (arith, some, ours, zero) in
+    let stands = e.idle.home.stands in
+    let many : length p.ranges.ranges.logs ≡ length s.files = stands.logs ∙ sym stands.refs_of ∙ ap length c.as_slice-handles.ensures.value ∙ c.in_ok-client.ensures.count ∙ ap length c.as_slice-lines.ensures in
+    played_legal s (record { version = 1; ranges = s.ranges; files = c.in_ok-parts.parts; guests = p.guests }) (new_board 0 (firsts_of s.files)) p.files p.ranges c.requires.playable refl refl files e.count e.parts known
+    (λ f lt. sound_log s.ranges (log_at p.ranges f) (subst (λ (n : ℕ). sound n (log_at p.ranges f) ≡ true) e.ranges (c.sound_ranges.ensures.logs f (subst (λ (n : ℕ). f < n) (sym many) lt))))

@@ -32,4 +32,5 @@ loop-file-preserved g c =
       session = subst (IsSession (names_of c.args.named.now) (i + 1)) (sym state) (session_more (names_of c.args.named.now) i s inv.session);
       handles = subst (λ (z : List FileRef × State). AreOpen z.0 z.1) (λ j. (sym c.in_ok-push.ensures.items j, sym state j)) more;
       same = c.in_ok-at.ensures.files ∙ inv.same;
+      window = c.in_ok-at.ensures.map ∙ inv.window;
     }

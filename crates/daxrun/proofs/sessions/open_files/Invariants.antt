@@ -13,4 +13,5 @@ invariant-loop-file g l = record {
   session : IsSession (names_of l.named) l.file-index (g.W.Wire.wire l.client.wire).state;
   handles : AreOpen l.opened.items (g.W.Wire.wire l.client.wire).state;
   same : l.files ≡ l.fn.files;
+  window : l.map ≡ l.fn.map;
 }

@@ -49,3 +49,8 @@ pub returns-clause-files : goal.returns-clause-files
 returns-clause-files g c =
     let h = c.requires.there in
     ap (λ (w : World). w.files) c.in_ok-fh.ensures.left ∙ ap (λ (w : World). w.files) (c.in_ok-node.ensures.left h.0 h.1.found)
+
+pub returns-clause-map : goal.returns-clause-map
+returns-clause-map g c =
+    let h = c.requires.there in
+    ap (λ (w : World). w.map) c.in_ok-fh.ensures.left ∙ ap (λ (w : World). w.map) (c.in_ok-node.ensures.left h.0 h.1.found)
