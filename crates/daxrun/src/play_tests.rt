@@ -1,5 +1,9 @@
-ghost use Rattle.std.specs.Prelude.{◌≡◌, [], IfSome};
-ghost use Rattle.daxrun.specs.Carried.{IsPlayable};
+ghost use Rattle.std.specs.Prelude.{◌≡◌, ◌*◌, true, false, [], length, IfSome};
+ghost use Rattle.page_map.specs.Plain.{range_pages};
+ghost use Rattle.fuse_device.specs.State.{new_state};
+ghost use Rattle.guest_wire.specs.Wires.{Boards};
+ghost use Rattle.daxrun.specs.Carried.{names_of, IsPlayable};
+ghost use Rattle.daxrun.specs.Session.{IsOpened};
 
 use crate::plays::play_calls;
 use crate::run_tests::{FOUR, RECLAIM, UPGRADE};
@@ -8,9 +12,10 @@ use crate::sessions::{daemon_of, end_session, opening_board, start_session};
 use dax_host::SoloWire;
 use dax_script::{Script, parse};
 use fuse_wire::InHeader;
-use guest_wire::{Driver, KeepWire};
+use guest_wire::{Driver, FileRef, KeepWire, Wire};
 use page_map::{PAGES_OF_RANGE, PageMap};
-use plain_file::{Blob, List, Memory};
+use plain_file::{Blob, List, Memory, PlainFiles};
+use range_tree::PlainRanges;
 use std::alloc::Global;
 use std::process::Abort;
 use std::sync::Wait;
@@ -36,12 +41,28 @@ fn session<R: Wait>(rt: &R, alloc: Global, script: &Script) -> Result<List<Blob>
     let mut daemon = daemon_of(alloc, script)?;
     let solo = SoloWire::new(alloc, &mut daemon)?;
     let client = Driver::new(KeepWire::new(alloc, solo));
+    session_by(rt, alloc, script, client)
+}
+
+fn session_by<R: Wait, W>(
+    rt: &R,
+    alloc: Global,
+    script: &Script,
+    client: Driver<KeepWire<W>>,
+) -> Result<List<Blob>, Memory>
+where
+    W: Wire<PlainFiles, PageMap> + Drop,
+    requires playable { IsPlayable script.now }
+    requires honest { (W.wire client.wire.inner).honest ≡ true }
+    requires whole { (W.wire client.wire.inner).stays ≡ false }
+    requires new { (W.wire client.wire.inner).state ≡ new_state (range_pages * script.now.ranges) (names_of script.now.files) }
+{
     let mut files = opening_board(alloc)?;
     let mut map = PageMap::new(alloc, PAGES_OF_RANGE * script.ranges)?;
     let lines = script.files.as_slice();
     let (client, opened) = start_session(rt, alloc, client, lines, &mut files, &mut map)?;
     let client = end_session(rt, alloc, client, opened.as_slice(), &mut files, &mut map);
-    kept_by(alloc, &client)
+    copies(alloc, client.wire.requests().as_slice())
 }
 
 // The requests of the calls of a script's guest.
@@ -54,9 +75,25 @@ fn calls<R: Wait>(rt: &R, alloc: Global, script: &Script) -> Result<List<Blob>, 
     let mut map = PageMap::new(alloc, PAGES_OF_RANGE * script.ranges)?;
     let lines = script.files.as_slice();
     let (client, opened) = start_session(rt, alloc, client, lines, &mut files, &mut map)?;
+    calls_by(rt, alloc, script, client, opened.as_slice())
+}
+
+fn calls_by<R: Wait, W>(
+    rt: &R,
+    alloc: Global,
+    script: &Script,
+    client: Driver<W>,
+    opened: &[FileRef],
+) -> Result<List<Blob>, Memory>
+where
+    W: Wire<PlainFiles, PlainRanges> + Drop,
+    requires playable { IsPlayable script.now }
+    requires count { length opened.now ≡ length script.now.files }
+    requires opened { (b : Boards) × IsOpened (names_of script.now.files) opened.now (W.wire client.wire) b × (length b.map.table ≡ range_pages * script.now.ranges) }
+{
     let client = keeping(alloc, client);
-    let played = play_calls(rt, alloc, script, client, opened.as_slice())?;
-    kept_by(alloc, &played.client)
+    let played = play_calls(rt, alloc, script, client, opened)?;
+    copies(alloc, played.client.wire.requests().as_slice())
 }
 
 // The client, over a wire that keeps the requests from here on.
@@ -68,10 +105,6 @@ fn keeping<W>(alloc: Global, client: Driver<W>) -> Driver<KeepWire<W>>
         wire: KeepWire::new(alloc, wire),
         unique,
     }
-}
-
-fn kept_by<W>(alloc: Global, client: &Driver<KeepWire<W>>) -> Result<List<Blob>, Memory> {
-    copies(alloc, client.wire.requests().as_slice())
 }
 
 fn copies(alloc: Global, requests: &[Blob]) -> Result<List<Blob>, Memory> {

@@ -1,0 +1,22 @@
+use Rattle.std.proofs.Common.{◌∙◌, ap, refl, ◌*◌}
+use Rattle.plain_file.specs.Board.{BoardView}
+use Rattle.page_map.specs.Plain.{range_pages}
+use Rattle.guest_wire.specs.Wires.{WireView}
+use Rattle.daxrun.specs.Session.{empty_firsts}
+use Rattle.daxrun.proofs.Opening.{small_new, empty_small}
+use Rattle.daxrun.proofs.Playing.{servable_new}
+use Rattle.daxrun.proofs.play_tests.calls.Goals as goal
+
+pub start_session-requires-clause-live : goal.start_session-requires-clause-live
+start_session-requires-clause-live g c =
+    let s = c.args.script.now in
+    let state = ap (λ d. d.wire.daemon.now) c.new-client.ensures ∙ ap (λ (v : WireView). v.state) c.in_ok-new.ensures.wire ∙ c.in_ok-daemon.ensures in
+    record {
+      honest = refl;
+      whole = refl;
+      alone = ap (λ (v : BoardView). v.over) c.in_ok-files.ensures;
+      servable = servable_new (range_pages * s.ranges) s.files _ c.in_ok-files.files c.in_ok-map.map state c.in_ok-files.ensures c.in_ok-map.ensures.new c.requires.files.few;
+    }
+
+pub start_session-requires-clause-small : goal.start_session-requires-clause-small
+start_session-requires-clause-small g c = small_new empty_firsts c.in_ok-files.files c.in_ok-files.ensures (empty_small 16)
