@@ -1,6 +1,6 @@
 /* bridge: a vhost-user back end for virtio-fs, over a device that speaks the chain stream.
  *
- *     bridge [--record PREFIX] [--window FILE] SOCKET COMMAND...
+ *     bridge [--record PREFIX] [--window FILE] [--tag NAME] SOCKET COMMAND...
  *
  * It listens at SOCKET for the front end of one virtual machine (QEMU's vhost-user-fs-pci, say), and starts COMMAND with a
  * pipe at each end. Each chain that the guest offers on any queue goes to COMMAND as a frame of a chain stream
@@ -8,6 +8,8 @@
  *
  *     --record PREFIX   writes all that COMMAND is given to PREFIX.stream, and all that it answers to PREFIX.answers
  *     --window FILE     the DAX window: the file whose bytes the guest has as shared memory region 0
+ *     --tag NAME        the name to mount by, for front ends that ask for the configuration space (user-mode Linux; QEMU has a
+ *                       tag of its own, and doesn't ask)
  *
  * A DAX window's bytes are COMMAND's, and the guest loads and stores them without a word to the bridge. So the bridge keeps
  * FILE as a copy: what SETUPMAPPING maps is fetched by loads, and fetched again after a WRITE or SETATTR of its file; what the
@@ -638,11 +640,14 @@ enum {
     SET_VRING_NUM = 8, SET_VRING_ADDR = 9, SET_VRING_BASE = 10, GET_VRING_BASE = 11,
     SET_VRING_KICK = 12, SET_VRING_CALL = 13, SET_VRING_ERR = 14,
     GET_PROTOCOL_FEATURES = 15, SET_PROTOCOL_FEATURES = 16, GET_QUEUE_NUM = 17, SET_VRING_ENABLE = 18,
+    SET_BACKEND_REQUESTS = 21, GET_CONFIG = 24,
 };
 
 #define VERSION_1 (1ull << 32)         /* no indirect descriptors, no event indices: they aren't offered */
 #define PROTOCOL_FEATURES (1ull << 30)
-#define MANY_QUEUES 1ull               /* among the protocol features */
+#define MANY_QUEUES 1ull               /* the protocol's features: more queues than one, */
+#define CONFIGURATION (1ull << 9)      /* the configuration space, */
+#define BACKEND_REQUESTS (1ull << 5)   /* and a socket for requests of the back end, without which user-mode Linux finds no interrupt */
 #define NO_FILE 0x100u                 /* in the number of SET_VRING_KICK, _CALL and _ERR */
 
 struct message {
@@ -652,6 +657,7 @@ struct message {
         struct { uint32_t queue, number; } ring;
         struct { uint32_t queue, flags; uint64_t descriptors, used, available, log; } addresses;
         struct { uint32_t count, padding; struct { uint64_t guest, size, user, offset; } region[REGIONS]; } memory;
+        struct { uint32_t offset, size, flags; uint8_t bytes[256]; } configuration;
         uint8_t bytes[512];
     };
     int files[REGIONS]; /* not a part of the message: those that came beside it */
@@ -685,12 +691,38 @@ static bool take_message(int front_end, struct message *message)
     return true;
 }
 
+static void send_reply(int front_end, const struct message *reply)
+{
+    if (send(front_end, reply, MESSAGE_HEADER + reply->size, MSG_NOSIGNAL) != (ssize_t)(MESSAGE_HEADER + reply->size))
+        fail("the front end takes no answer: %s", strerror(errno));
+}
+
 static void reply_number(int front_end, const struct message *message, uint64_t number)
 {
     struct message reply = {.request = message->request, .flags = 1 | 4, .size = 8};
     reply.number = number;
-    if (send(front_end, &reply, MESSAGE_HEADER + 8, MSG_NOSIGNAL) != MESSAGE_HEADER + 8)
-        fail("the front end takes no answer: %s", strerror(errno));
+    send_reply(front_end, &reply);
+}
+
+static const char *tag; /* NULL where no configuration space is offered */
+
+/* Answers a piece of the configuration space (VIRTIO 1.2, section 5.11.4): the tag, and one request queue. */
+static void reply_configuration(int front_end, const struct message *message)
+{
+    struct {
+        char tag[36];
+        uint32_t request_queues;
+    } space = {.request_queues = 1};
+    struct message reply = *message;
+    uint32_t offset = message->configuration.offset, size = message->configuration.size;
+    memcpy(space.tag, tag, strlen(tag)); /* without its end, where it has all 36 bytes */
+    reply.flags = 1 | 4;
+    if (size > sizeof reply.configuration.bytes || message->size != 12 + size)
+        fail("the front end asks for %u bytes of configuration in a message of %u", size, message->size);
+    memset(reply.configuration.bytes, 0, size);
+    for (uint32_t i = 0; i < size && offset + (uint64_t)i < sizeof space; i++)
+        reply.configuration.bytes[i] = ((uint8_t *)&space)[offset + i];
+    send_reply(front_end, &reply);
 }
 
 static void set_memory(const struct message *message)
@@ -769,7 +801,9 @@ static void carry_out(int front_end, const struct message *message)
 {
     switch (message->request) {
     case GET_FEATURES: reply_number(front_end, message, VERSION_1 | PROTOCOL_FEATURES); break;
-    case GET_PROTOCOL_FEATURES: reply_number(front_end, message, MANY_QUEUES); break;
+    case GET_PROTOCOL_FEATURES: reply_number(front_end, message, MANY_QUEUES | (tag ? CONFIGURATION | BACKEND_REQUESTS : 0)); break;
+    case GET_CONFIG: reply_configuration(front_end, message); break;
+    case SET_BACKEND_REQUESTS: break; /* the bridge has none, and keeps the socket open */
     case GET_QUEUE_NUM: reply_number(front_end, message, QUEUES); break;
     case SET_FEATURES: case SET_PROTOCOL_FEATURES: case SET_OWNER: case RESET_OWNER: break;
     case SET_MEM_TABLE: set_memory(message); break;
@@ -857,11 +891,13 @@ int main(int words, char **word)
             prefix = word[next + 1];
         else if (strcmp(word[next], "--window") == 0)
             open_window(word[next + 1]);
+        else if (strcmp(word[next], "--tag") == 0 && strlen(word[next + 1]) <= 36)
+            tag = word[next + 1];
         else
             break;
     }
     if (words - next < 2 || word[next][0] == '-') {
-        fputs("usage: bridge [--record PREFIX] [--window FILE] SOCKET COMMAND...\n", stderr);
+        fputs("usage: bridge [--record PREFIX] [--window FILE] [--tag NAME] SOCKET COMMAND...\n", stderr);
         return 2;
     }
     for (unsigned i = 0; i < QUEUES; i++)

@@ -31,9 +31,9 @@ say() {
     poweroff -f
 }
 
-while read -r module; do
-    insmod "/modules/$module.ko" || say "no module $module"
-done < /modules/order
+depmod
+modprobe -q virtio_pci # user-mode Linux has none
+modprobe virtiofs || say "the kernel has no virtiofs"
 mount -t virtiofs ${live_options:+-o "$live_options"} live /mnt || say "the directory isn't mounted"
 echo "mounted: $(grep ' /mnt ' /proc/mounts)"
 
