@@ -85,10 +85,10 @@ fi
 
 # ---- The folder, and what is to end with this script ----
 
-machine='' bridge='' temporary=''
-# shellcheck disable=SC2317  # the trap calls it
+machine='' bridge='' temporary='' group=''
+# shellcheck disable=SC2317,SC2086  # the trap calls it; there may be no group
 clear_up() {
-    [ -z "$machine" ] || kill "$machine" 2>/dev/null
+    [ -z "$machine" ] || kill -KILL "$machine" $group 2>/dev/null
     [ -z "$bridge" ] || kill "$bridge" 2>/dev/null
     wait
     [ -z "$temporary" ] || rm -rf "$temporary"
@@ -169,6 +169,7 @@ start_user_mode() {
     "$kernel" mem=256M uml_dir="$folder" umid=uml initrd="$folder/initial.gz" \
         virtio_uml.device="$folder/socket:26" con=null con0=null,fd:1 ssl=null $words > "$folder/console" 2>&1 </dev/null &
     machine=$!
+    group=-$machine # it is the leader of one, of its guest's processes
 }
 
 # A /dev/kvm may be there where the processor offers no virtualization; a kernel doesn't start in it then.

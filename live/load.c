@@ -411,12 +411,12 @@ static void unlinked(void)
 
 static void big(void)
 {
-    enum { COUNT = 20 };
+    int count = rounds < 200 ? 1 + rounds / 10 : 20;
     uint8_t *bytes = malloc(MIB), *other = malloc(MIB);
     if (!bytes || !other)
         exit(2);
     int file = open("big", O_CREAT | O_RDWR | O_TRUNC, 0644);
-    for (int i = 0; i < COUNT; i++) {
+    for (int i = 0; i < count; i++) {
         memset(bytes, i, MIB);
         for (int k = 0; k < MIB; k += 509)
             bytes[k] = (uint8_t)(k >> 9);
@@ -424,7 +424,7 @@ static void big(void)
     }
     check(fsync(file) == 0, "fsync fails");
     drop_caches();
-    for (int i = 0; i < COUNT; i++) {
+    for (int i = 0; i < count; i++) {
         memset(bytes, i, MIB);
         for (int k = 0; k < MIB; k += 509)
             bytes[k] = (uint8_t)(k >> 9);
@@ -475,7 +475,8 @@ static void calls_on_a_file(void)
     call("flock", flock(file, LOCK_EX | LOCK_NB));
     call("fsync of the folder", fsync(folder));
     call("syncfs", syncfs(file));
-    call("chmod", fchmod(file, 0600));
+    call("chmod", fchmod(file, 0700));
+    call("access to run it", access("big", X_OK));
     call("chown", fchown(file, 7, 8));
     call("times", futimens(file, (struct timespec[]){{1000000000, 5}, {1000000001, 6}}));
     fstat(file, &about);
