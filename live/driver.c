@@ -1,6 +1,6 @@
 /* driver: the guest's side of a virtio-fs device, played from a chain stream.
  *
- *     driver SOCKET < STREAM > ANSWERS
+ *     driver [--window FILE] SOCKET < STREAM > ANSWERS
  *
  * It connects to the vhost-user back end at SOCKET (virtiofsd, say, or our bridge), offers each chain of the stream on a queue
  * in memory of its own, in the pieces that the stream has, and writes the answer as a frame of the form of `daxwire serve`
@@ -8,12 +8,14 @@
  * carries a real guest's requests to that device, and the bridge records them.
  *
  * FORGET, INTERRUPT and BATCH_FORGET go to the high priority queue, all else to the first request queue (VIRTIO 1.2, section
- * 5.11.6). It has no DAX window: a load or store is answered as unmapped.
+ * 5.11.6). Where FILE is the back end's DAX window, a load or store goes to its bytes, as a guest's does, and is done, whether
+ * or not something is mapped there. Else, or past the window, it is answered as unmapped.
  *
  * The status is 0, or 1 with one line on standard error that says why.
  */
 #define _GNU_SOURCE
 #include <errno.h>
+#include <fcntl.h>
 #include <poll.h>
 #include <stdbool.h>
 #include <stdint.h>
@@ -23,6 +25,7 @@
 #include <sys/eventfd.h>
 #include <sys/mman.h>
 #include <sys/socket.h>
+#include <sys/stat.h>
 #include <sys/un.h>
 #include <unistd.h>
 
@@ -38,7 +41,8 @@ enum {
     ACCESS = 1048576,  /* bytes of a load or store, at most */
     QUEUES = 2,        /* the high priority queue, and the first request queue */
 };
-enum { CHAIN = 1, LOAD = 2, STORE = 3, UNMAPPED = 1 };
+enum { CHAIN = 1, LOAD = 2, STORE = 3 };
+enum { DONE = 0, UNMAPPED = 1 };
 enum { NEXT = 1, WRITABLE = 2 };
 
 /* ---- The memory that both sides share ---- */
@@ -263,31 +267,55 @@ static void play_chain(void)
     put(memory->reply, used);
 }
 
-static void refuse_access(uint8_t kind)
+static uint8_t *window;
+static uint64_t window_size;
+
+static void open_window(const char *path)
+{
+    struct stat about;
+    int file = open(path, O_RDWR | O_CLOEXEC);
+    if (file < 0 || fstat(file, &about))
+        fail("can't open the window %s: %s", path, strerror(errno));
+    window_size = (uint64_t)about.st_size;
+    window = mmap(NULL, window_size, PROT_READ | PROT_WRITE, MAP_SHARED, file, 0);
+    if (window == MAP_FAILED)
+        fail("can't map the window %s: %s", path, strerror(errno));
+    close(file);
+}
+
+static void play_access(uint8_t kind)
 {
     static uint8_t bytes[ACCESS];
-    uint8_t status = UNMAPPED;
+    uint64_t at;
     uint32_t length, none = 0;
-    take_all(bytes, 8);
+    take_all(&at, 8);
     take_all(&length, 4);
     if (length > ACCESS)
         fail("a load or store has more than %d bytes", ACCESS);
     if (kind == STORE)
         take_all(bytes, length);
+    bool inside = at <= window_size && length <= window_size - at;
+    uint8_t status = inside ? DONE : UNMAPPED;
+    if (kind == STORE && inside)
+        memcpy(window + at, bytes, length);
     put(&kind, 1);
     put(&status, 1);
-    if (kind == LOAD)
-        put(&none, 4);
+    if (kind == LOAD) {
+        put(inside ? &length : &none, 4);
+        put(window + at, inside ? length : 0);
+    }
 }
 
 int main(int words, char **word)
 {
     uint8_t header[12], kind;
-    if (words != 2 || word[1][0] == '-') {
-        fputs("usage: driver SOCKET < STREAM > ANSWERS\n", stderr);
+    if (words == 4 && strcmp(word[1], "--window") == 0)
+        open_window(word[2]);
+    else if (words != 2 || word[1][0] == '-') {
+        fputs("usage: driver [--window FILE] SOCKET < STREAM > ANSWERS\n", stderr);
         return 2;
     }
-    start(word[1]);
+    start(word[words - 1]);
     take_all(header, sizeof header);
     if (memcmp(header, "DAXWIRE1", 8) != 0)
         fail("standard input is no chain stream");
@@ -295,7 +323,7 @@ int main(int words, char **word)
         if (kind == CHAIN)
             play_chain();
         else if (kind == LOAD || kind == STORE)
-            refuse_access(kind);
+            play_access(kind);
         else
             fail("a frame of no known kind, %u", kind);
         if (fflush(stdout) != 0)

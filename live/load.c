@@ -444,47 +444,50 @@ static void call(const char *name, long result)
     fflush(stdout);
 }
 
+/* Each is on a file of its own, so that what one changes shows in no other. */
 static void calls_on_names(void)
 {
     call("mkdir", mkdir("folder", 0755));
     call("mknod of a pipe", mknod("pipe", S_IFIFO | 0600, 0));
-    call("symlink", symlink("third", "symlink"));
-    call("link", link("big", "link"));
-    call("rename", rename("link", "renamed"));
-    call("rename to a new name alone", syscall(SYS_renameat2, AT_FDCWD, "big", AT_FDCWD, "large", 1));
-    call("rename back", rename("large", "big"));
+    call("symlink", symlink("big", "symlink"));
+    call("link", link("lines", "link"));
+    call("rename", rename("own0", "renamed"));
+    call("rename that replaces nothing", syscall(SYS_renameat2, AT_FDCWD, "own1", AT_FDCWD, "replaced", 1));
     call("open of a file without name", open(".", O_TMPFILE | O_RDWR, 0600));
     call("statfs", statfs(".", &(struct statfs){0}));
-    call("access", access("big", R_OK));
-    call("rmdir", rmdir("folder"));
+    int folder = open(".", O_RDONLY | O_DIRECTORY);
+    call("fsync of the folder", fsync(folder));
+    close(folder);
 }
 
-static void calls_on_a_file(void)
+static void calls_on_attributes(void)
 {
-    int file = open("big", O_RDWR), folder = open(".", O_RDONLY | O_DIRECTORY);
     struct stat about = {0};
+    call("chmod", chmod("own2", 0700));
+    call("access to run it", access("own2", X_OK));
+    call("chown", chown("own2", 7, 8));
+    call("times", utimensat(AT_FDCWD, "own2", (struct timespec[]){{1000000000, 5}, {1000000001, 6}}, 0));
+    stat("own2", &about);
+    printf("call stat: mode %o, owner %u %u, changed at %lld\n", about.st_mode, about.st_uid, about.st_gid, (long long)about.st_mtime);
+    call("setxattr", setxattr("own2", "user.key", "value", 5, 0));
+    call("getxattr", getxattr("own2", "user.key", &about, sizeof about));
+    call("listxattr", listxattr("own2", (char *)&about, sizeof about));
+}
+
+static void calls_on_files(void)
+{
+    int random = open("random", O_RDWR), own3 = open("own3", O_RDWR), big = open("big", O_RDWR), stripes = open("stripes", O_RDWR);
     struct flock lock = {.l_type = F_WRLCK, .l_len = 4};
-    call("fallocate", fallocate(file, 0, 0, 100000));
-    call("fallocate that makes a hole", fallocate(file, FALLOC_FL_KEEP_SIZE | FALLOC_FL_PUNCH_HOLE, 0, PAGE));
-    call("lseek to data", lseek(file, 0, SEEK_DATA));
-    call("copy_file_range", syscall(SYS_copy_file_range, file, &(loff_t){0}, file, &(loff_t){MIB}, 100L, 0));
-    call("setxattr", setxattr("big", "user.key", "value", 5, 0));
-    call("getxattr", getxattr("big", "user.key", &about, sizeof about));
-    call("listxattr", listxattr("big", (char *)&about, sizeof about));
-    call("lock", fcntl(file, F_SETLK, &lock));
-    call("flock", flock(file, LOCK_EX | LOCK_NB));
-    call("fsync of the folder", fsync(folder));
-    call("syncfs", syncfs(file));
-    call("chmod", fchmod(file, 0700));
-    call("access to run it", access("big", X_OK));
-    call("chown", fchown(file, 7, 8));
-    call("times", futimens(file, (struct timespec[]){{1000000000, 5}, {1000000001, 6}}));
-    fstat(file, &about);
-    printf("call fstat: mode %o, owner %u %u, changed at %lld\n", about.st_mode, about.st_uid, about.st_gid, (long long)about.st_mtime);
-    call("write past 64 MiB", pwrite(file, "x", 1, 64 * MIB));
-    call("truncation past 64 MiB", ftruncate(file, 64 * MIB + 1));
-    close(folder);
-    close(file);
+    call("lseek to data", lseek(random, 0, SEEK_DATA));
+    call("lock", fcntl(random, F_SETLK, &lock));
+    call("flock", flock(random, LOCK_EX | LOCK_NB));
+    call("syncfs", syncfs(random));
+    call("copy_file_range", syscall(SYS_copy_file_range, stripes, &(loff_t){0}, stripes, &(loff_t){100000}, 100L, 0));
+    call("write past 64 MiB", pwrite(big, "x", 1, 64 * MIB));
+    call("truncation past 64 MiB", ftruncate(own3, 64 * MIB + 1));
+    call("fallocate", fallocate(random, 0, 0, 100000));
+    call("fallocate that makes a hole", fallocate(random, FALLOC_FL_KEEP_SIZE | FALLOC_FL_PUNCH_HOLE, 0, PAGE));
+    close(random), close(own3), close(big), close(stripes);
 }
 
 static void calls_for_files(void)
@@ -516,8 +519,9 @@ int main(int words, char **word)
     begin("names"), names(), end();
     begin("unlinked"), unlinked(), end();
     begin("big"), big(), end();
+    calls_on_attributes();
+    calls_on_files();
     calls_on_names();
-    calls_on_a_file();
     calls_for_files();
     return all_wrong != 0;
 }
