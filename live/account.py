@@ -19,6 +19,8 @@ NAMES = dict(enumerate(
     "interrupt bmap destroy ioctl poll notify_reply batch_forget fallocate readdirplus rename2 lseek copy_file_range setupmapping "
     "removemapping syncfs tmpfile statx".split(), 1))
 
+ERRORS = errno.errorcode | {errno.EOPNOTSUPP: "EOPNOTSUPP"}  # it has a second name
+
 
 def operation(request):
     """The operation of a request's line; of a bad one, with the reason why it is bad."""
@@ -37,7 +39,7 @@ def outcome(reply):
     """What a reply's line says, without its fields."""
     error = re.match(r"error=(\d+)", reply)
     if error:
-        return errno.errorcode.get(int(error[1]), f"error {error[1]}")
+        return ERRORS.get(int(error[1]), f"error {error[1]}")
     return "ok" if reply.startswith("ok ") else re.split(r" \w+=", reply)[0]
 
 
