@@ -185,6 +185,8 @@ fn reads_over_the_seam(rt: HostRuntime) -> Result<(), Fail> {
     let (status, taken) = answer_to(&rt, alloc, script.as_bytes())?;
     assert_eq!(rt; status, Status::Ok);
     assert!(rt; taken.as_slice() == told.as_bytes());
+    let verdict = verdict_on(alloc, script.as_bytes(), taken.as_slice())?;
+    assert_eq!(rt; verdict, Some(Verdict::Legal));
     Ok(())
 }
 
