@@ -14,7 +14,7 @@ use Rattle.page_map.specs.Board.{MapView, log_at}
 use Rattle.range_tree.specs.Logs.{Finds, is_live}
 use Rattle.range_tree.specs.Ranges.{range_count, pins_on, pinned_in, tree_slot, slot_at, tree_of, slot_target, no_target, with_pin, IsSoundRanges, IsAtLeast, is_enough}
 use Rattle.guest_dax.specs.Stands.{KeepsMap}
-use Rattle.guest_dax.specs.Pinning.{IsPin, IsEnoughPlaced, PinsFound}
+use Rattle.guest_dax.specs.Pinning.{PlacesIn, IsPin, IsEnoughPlaced, PinsFound}
 use Rattle.guest_dax.proofs.Keeping.{KeepsMap-same, IsAtLeast-same}
 use Rattle.guest_dax.proofs.Placing.{slotted-in}
 use Rattle.guest_dax.specs.declared.pins.Pinned.{Pinned}
@@ -44,6 +44,11 @@ unfolding Finds is_writable
 live-found log chunk modes.R p found enough = found.live
 live-found log chunk modes.W p found enough = sym found.written ∙ writes p.mode enough
 
+-- and its entry places the chunk in its range
+place-found : (log : List LogEntry) (chunk : ℕ) (p : Placed) → Finds log chunk (Some p) → PlacesIn log p.entry chunk p.range
+unfolding Finds
+place-found log chunk p found = (found.at_first, found.entry)
+
 set-here : {X : Type 0} (xs : List X) (i : ℕ) (x d : X) → i < length xs → get_or (slice_set xs i x) i d ≡ x
 set-here xs i x d h = grind (arith, elements)
 
@@ -71,6 +76,7 @@ IsPin-with_pin v file chunk mode p tree sound e finds enough =
     record {
       live = live-found (log_at v file) chunk mode p finds enough;
       upto = refl;
+      entry = place-found (log_at v file) chunk p finds;
       range = rw (length-set v.hands.pins p.range (pins_on v p.range + 1)) within;
       had = omega (arith, had);
       pinned = record { same_file = ap (λ (t : Target). t.file) known; same_chunk = ap (λ (t : Target). t.chunk) known; enough = ap (λ (t : Target). is_enough mode t.mode) known ∙ enough };

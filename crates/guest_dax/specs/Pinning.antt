@@ -1,5 +1,5 @@
 -- A pin on a chunk of a file: where it goes through, and what it leaves.
-use Rattle.std.specs.Prelude.{◌≡◌, ℕ, ◌+◌, ◌<◌, true, false, List, [], ◌∷◌, ◌++◌, length, slice_set, Option, Some, None, IsSome, Result, Ok, Err}
+use Rattle.std.specs.Prelude.{◌≡◌, ℕ, ◌+◌, ◌<◌, true, false, List, [], ◌∷◌, ◌++◌, length, slice_get, slice_set, Option, Some, None, IsSome, Result, Ok, Err}
 use Rattle.page_map.specs.declared.pages.Mode.{Mode}
 use Rattle.page_map.specs.declared.pages.Mode.TheVariants as modes
 use Rattle.page_map.specs.declared.ranges.LogEntry.{LogEntry}
@@ -19,10 +19,15 @@ use Rattle.guest_dax.specs.declared.refusals.DaxRefusal.{DaxRefusal}
 abbrev pub with_one : MapView → ℕ → Option ℕ → Hands
 with_one v range moves = record v.hands { moves = moves; pins = slice_set v.hands.pins range (pins_on v range + 1) }
 
--- A range is pinned, through an entry that places the chunk and was live with this mode when the log was as long as is seen now. Under the pin the range is known to be mapped to the chunk, with a mode that is enough.
+-- this entry of a log places a chunk in a range
+abbrev pub PlacesIn : List LogEntry → ℕ → ℕ → ℕ → Type 0
+PlacesIn log entry chunk range = (mode : Mode) × (slice_get log entry ≡ Some (entries.Place chunk range mode))
+
+-- A range is pinned, through an entry that places the chunk there and was live with this mode when the log was as long as is seen now. Under the pin the range is known to be mapped to the chunk, with a mode that is enough.
 pub record IsPin (new : MapView) (file chunk : ℕ) (mode : Mode) (p : Pinned) : Type 0 where
   pub live : is_live (is_writable mode) (log_at new file) chunk p.through.entry p.through.upto ≡ true
   pub upto : p.through.upto ≡ length (log_at new file)
+  pub entry : PlacesIn (log_at new file) p.through.entry chunk p.range
   pub range : p.range < range_count new
   pub had : 0 < pins_on new p.range
   pub pinned : IsAtLeast (record { file = file; chunk = chunk; mode = mode }) (pinned_in new p.range)
