@@ -49,15 +49,15 @@ pub record GoesOver (m : Message) (reply : Reply) : Type 0 where
   pub formed : HasForm (reply_form (kind_of m.body)) reply
   pub fits : FitsParts (reply_parts reply)
 
--- a request that applies an operation to a file, and what it is replied
-pub record IsOnFile (s : State) (m : Message) (file : ℕ) (op : Op) (reply : World → Reply) : Type 0 where
+-- a request that applies an operation to a file, where the board has the bar on this file or none, and what it is replied
+pub record IsOnFile (s : State) (bar : Option ℕ) (m : Message) (file : ℕ) (op : Op) (reply : World → Reply) : Type 0 where
   pub taken : is_data m.body ≡ true
   pub on : is_on_file m.body ≡ true
   pub has_reply : is_forget m.body ≡ false
   pub node : m.head.nodeid ≡ file + 2
   pub started : s.started ≡ true
   pub known : is_known s m.head.nodeid ≡ true
-  pub gives : (w : World) → w.state ≡ s → answered w m.head.nodeid m.body ≡ (Ok (reply w), record w { files = applied w.files file op })
+  pub gives : (w : World) → w.state ≡ s → w.files.hands.bar ≡ bar → answered w m.head.nodeid m.body ≡ (Ok (reply w), record w { files = applied w.files file op })
   pub over : (w : World) → m.head.nodeid < 2 ^ 64 → (op ≡ ops.Size → size_of (file_at w.files file) ≤ max_file) → GoesOver m (reply w)
   pub answers : (w : World) → answer_in (reply w) ≡ (file_answer (file_at w.files file) op).answer
   pub success : (w : World) → IsSome (form_of (reply w))
@@ -100,6 +100,11 @@ step_by false w m reply new s taken answers started gives = whole_step w m reply
 
 -- ---- what is carried out
 
+-- entering a file leaves the bar as it is
+barred-as : (stays : Bool) (v : BoardView) (file : ℕ) (more : List Entry) → (mid stays v file more).hands.bar ≡ v.hands.bar
+barred-as true v file more = refl
+barred-as false v file more = refl
+
 -- the world in which it is served
 abbrev pub served_in : Bool → World → ℕ → List Entry → World
 served_in stays old file more = record old { files = mid stays old.files file more }
@@ -116,13 +121,13 @@ step_fits : (stays : Bool) (w : World) (s : Sent) → length (step_of stays w s)
 step_fits true w s = data_step_fits w s.bytes s.room
 step_fits false w s = device_step_fits w s.bytes s.room
 
-pub carries : (w : WireView) (old : World) (m : Message) (file : ℕ) (op : Op) (reply : World → Reply) (bytes : List ℕ) (new : World) → old.state ≡ w.state → Spells m (clean_message m) → IsOnFile w.state m file op reply → IsCarried w old (sent m) bytes new → Carries w old m file op reply bytes new
+pub carries : (w : WireView) (old : World) (m : Message) (file : ℕ) (op : Op) (reply : World → Reply) (bytes : List ℕ) (new : World) → old.state ≡ w.state → Spells m (clean_message m) → IsOnFile w.state old.files.hands.bar m file op reply → IsCarried w old (sent m) bytes new → Carries w old m file op reply bytes new
 carries w old m file op reply bytes new state s h c =
     let turn : turn_for w (clean_message m) ≡ (if w.stays then Some file else None) = turn_by w.stays w (clean_message m) file refl (named_by w.state m file s h.on h.node h.known) in
     let u : World = served_in w.stays old file c.more in
     let enters : with_turn (turn_for w (clean_message m)) old c.more ≡ u = ap (λ (t : Option ℕ). with_turn t old c.more) turn ∙ turned w.stays old file c.more in
     let step : step_of w.stays u (sent m) ≡ (c.served, bytes) = ap (λ (v : World). step_of w.stays v (sent m)) (sym enters) ∙ c.step in
-    let does : (c.served, bytes) ≡ (record u { files = applied u.files file op }, clean_reply m.head.unique (reply u)) = sym step ∙ step_by w.stays u m (reply u) (record u { files = applied u.files file op }) s h.taken h.has_reply (ap (λ (d : State). d.started) state ∙ h.started) (h.gives u state) in
+    let does : (c.served, bytes) ≡ (record u { files = applied u.files file op }, clean_reply m.head.unique (reply u)) = sym step ∙ step_by w.stays u m (reply u) (record u { files = applied u.files file op }) s h.taken h.has_reply (ap (λ (d : State). d.started) state ∙ h.started) (h.gives u state (barred-as w.stays old.files file c.more)) in
     let left_by : new ≡ record c.served { files = back w.stays c.served.files file } = c.left ∙ ap (λ (t : Option ℕ). without_turn t c.served) turn ∙ returned w.stays c.served file in
     let after : c.served ≡ record u { files = applied u.files file op } = ap (λ (t : Step). t.0) does in
     record {
@@ -148,12 +153,12 @@ heard_by : (m : Message) (bytes : List ℕ) (reply : Reply) → length bytes ≤
 unfolding heard_as numbered
 heard_by m bytes reply within read = rw (le-ltb (wanted_room m.body) (length bytes) within, read, eq-eqb m.head.unique m.head.unique refl) refl
 
-pub hears : (w : WireView) (old : World) (m : Message) (file : ℕ) (op : Op) (reply : World → Reply) (bytes : List ℕ) (new : World) → old.state ≡ w.state → Spells m (clean_message m) → IsOnFile w.state m file op reply → (c : Carries w old m file op reply bytes new)
+pub hears : (w : WireView) (old : World) (m : Message) (file : ℕ) (op : Op) (reply : World → Reply) (bytes : List ℕ) (new : World) → old.state ≡ w.state → Spells m (clean_message m) → IsOnFile w.state old.files.hands.bar m file op reply → (c : Carries w old m file op reply bytes new)
     → (op ≡ ops.Size → size_of (file_at (mid w.stays old.files file c.more) file) ≤ max_file) → heard m bytes ≡ Some (reply (served_in w.stays old file c.more))
 hears w old m file op reply bytes new state s h c small =
     let u : World = served_in w.stays old file c.more in
     let goes = h.over u (node_fits m (clean_message m) s) small in
-    let succeeds : Succeeds u m.head.nodeid m.body (reply u) (record u { files = applied u.files file op }) = record { may_ask = rw (ap (λ (d : State). d.started) state ∙ h.started) refl; has_reply = h.has_reply; gives = h.gives u state; good = goes.good; formed = goes.formed; fits = goes.fits } in
+    let succeeds : Succeeds u m.head.nodeid m.body (reply u) (record u { files = applied u.files file op }) = record { may_ask = rw (ap (λ (d : State). d.started) state ∙ h.started) refl; has_reply = h.has_reply; gives = h.gives u state (barred-as w.stays old.files file c.more); good = goes.good; formed = goes.formed; fits = goes.fits } in
     let read : reply_of (reply_form (kind_of m.body)) bytes ≡ Ok (m.head.unique, reply u) = ap (reply_of (reply_form (kind_of m.body))) c.bytes_are ∙ clean_reply_again m.body m.head.unique u m.head.nodeid (reply u) (record u { files = applied u.files file op }) succeeds (unique_fits m (clean_message m) s) in
     heard_by m bytes (reply u) c.within read
 
@@ -166,7 +171,7 @@ pub record Sees (w : WireView) (old : World) (file : ℕ) (new : World) : Type 0
   pub files : new.files ≡ back w.stays (mid w.stays old.files file more) file
   pub state : new.state ≡ old.state
 
-pub sees : (w : WireView) (old : World) (m : Message) (file : ℕ) (op : Op) (reply : World → Reply) (new : World) → Spells m (clean_message m) → IsOnFile w.state m file op reply → IsSeen w old (sent m) new → Sees w old file new
+pub sees : (w : WireView) (old : World) (m : Message) (file : ℕ) (op : Op) (reply : World → Reply) (new : World) → Spells m (clean_message m) → IsOnFile w.state old.files.hands.bar m file op reply → IsSeen w old (sent m) new → Sees w old file new
 sees w old m file op reply new s h c =
     let turn : turn_for w (clean_message m) ≡ (if w.stays then Some file else None) = turn_by w.stays w (clean_message m) file refl (named_by w.state m file s h.on h.node h.known) in
     let u : World = served_in w.stays old file c.more in

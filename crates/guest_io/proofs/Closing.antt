@@ -44,7 +44,7 @@ closes-left v file more op w within is sound k n at none =
     (long, ap (λ (l : List Entry). length l) history ∙ grind (arith, common_steps), subst (λ (m : Note). IfSome m.upper (λ upper. IsFresh g.first g.history m.lower upper m.size)) found here)
 
 closes-answered : {S V : Type 0} (wire : S → WireView) (gives : S → Boards → Sent → Result (List ℕ) WireError → S → Boards → Type 0) (says : V → Reply → Type 0) (before : S) (old : Boards) (call : ℕ) (way : Way) (m : Message) (file : ℕ) (op : Op) (reply : World → Reply) (v : V) (after : S) (new : Boards)
-    → Answers wire gives says before (boards (marked old.files call way) old.map) m (Ok v) after new → file < length old.files.files → IsSoundBoard new.files file → IsOnFile (wire before).state m file op reply → (wire before).honest ≡ true → (wire before).stays ≡ true → ClosesNotes (file_at old.files file) (file_at new.files file)
+    → Answers wire gives says before (boards (marked old.files call way) old.map) m (Ok v) after new → file < length old.files.files → IsSoundBoard new.files file → IsOnFile (wire before).state old.files.hands.bar m file op reply → (wire before).honest ≡ true → (wire before).stays ≡ true → ClosesNotes (file_at old.files file) (file_at new.files file)
 closes-answered wire gives says before old call way m file op reply v after new (bytes, came, judged) within sound h honest stays =
     let w = world_at (wire before) (boards (marked old.files call way) old.map) in
     let x = world_at (wire after) new in

@@ -206,6 +206,9 @@ IsUndone-between v v' w w' file a k b = record {
 pub IsRefused-between : (wire wire' : WireView) (map map' : MapView) (v v' w w' : BoardView) (file call : ℕ) (op : Op) (off len : ℕ) (e : Refusal) → LeasesAlone v v' file → LeasesAlone w w' file → w'.hands ≡ v.hands → IsRefused (stand wire v' map) file call op off len e (stand wire' w map') → IsRefused (stand wire v map) file call op off len e (stand wire' w' map')
 IsRefused-between wire wire' map map' v v' w w' file call op off len (refusals.Busy looked) a b hands (busy, undone) = (busy, λ honest. IsUndone-between v v' w w' file a (undone honest) b)
 IsRefused-between wire wire' map map' v v' w w' file call op off len (refusals.Errno number) a b hands h = h
+IsRefused-between wire wire' map map' v v' w w' file call op off len (refusals.Leased count) a b hands h = h
+IsRefused-between wire wire' map map' v v' w w' file call op off len (refusals.NoHold hold) a b hands h = h
+IsRefused-between wire wire' map map' v v' w w' file call op off len (refusals.Past end) a b hands h = h
 IsRefused-between wire wire' map map' v v' w w' file call op off len (refusals.BadReply received) a b hands h = h
 IsRefused-between wire wire' map map' v v' w w' file call op off len refusals.WireFault a b hands h = h
 IsRefused-between wire wire' map map' v v' w w' file call op off len refusals.Memory a b hands (looks, may) = (

@@ -12,4 +12,9 @@ pub mod Passing
 pub mod Homing
 pub mod Reading
 pub mod Closing
+pub mod Truncating
 pub mod Leasing
+pub mod HoldLaws
+pub mod HoldReleasing
+pub mod HoldAccess
+pub mod HoldGranting

@@ -1,5 +1,5 @@
 -- The requests about a file's bytes and its size.
-use Rattle.std.proofs.Common.{◌≡◌, ◌∙◌, ap, sym, refl, subst, arith, ℕ, ◌+◌, ◌-◌, ◌<◌, ◌≤◌, ◌^◌, Bool, true, false, List, length, length-take, take, drop, Ok, is_some, if◌then◌else◌}
+use Rattle.std.proofs.Common.{◌≡◌, ◌∙◌, ap, sym, refl, subst, arith, ℕ, ◌+◌, ◌-◌, ◌<◌, ◌≤◌, ◌^◌, Bool, true, false, List, length, Option, length-take, take, drop, Ok, is_some, if◌then◌else◌}
 use Rattle.std.proofs.lemmas.Bool.{le-leb}
 use Rattle.plain_file.specs.declared.operations.Op.TheVariants as ops
 use Rattle.plain_file.specs.File.{max_file, answer}
@@ -47,7 +47,7 @@ handle-of s refs at file h within is honest =
 pub size_reply : ℕ → ℕ → World → Reply
 size_reply node file w = replies.Attr (attr_out_of (file_attr w.state node (size_of (file_at w.files file))))
 
-links_fit : (b : Bool) → (if b then 1 else 0) < 2 ^ 32
+pub links_fit : (b : Bool) → (if b then 1 else 0) < 2 ^ 32
 links_fit true = omega arith
 links_fit false = omega arith
 
@@ -68,7 +68,7 @@ size-gives w at file e h =
     let allowed = may_apply_size w.files (at.node - 2) in
     subst (λ f. answered w at.node (getattr_request at) ≡ (Ok (replies.Attr (attr_out_of (file_attr w.state at.node (size_of (file_at w.files f))))), record w { files = applied w.files f ops.Size })) n (rw (known, h.handle, on, allowed) refl)
 
-pub size-on : (s : State) (unique : ℕ) (at : FileRef) (file : ℕ) → IsHandle s at file → IsOnFile s (message unique at.node (getattr_request at)) file ops.Size (size_reply at.node file)
+pub size-on : {bar : Option ℕ} (s : State) (unique : ℕ) (at : FileRef) (file : ℕ) → IsHandle s at file → IsOnFile s bar (message unique at.node (getattr_request at)) file ops.Size (size_reply at.node file)
 unfolding size_reply is_data is_on_file is_forget answer_in file_answer answer form_of file_attr
 size-on s unique at file h =
     let e = h.node in
@@ -80,7 +80,7 @@ size-on s unique at file h =
       node = e;
       started = k.started;
       known = is_known-open s at.node at.fh k;
-      gives = λ w same. size-gives w at file e (subst (λ d. HasOpenFile d at.node at.fh) (sym same) k);
+      gives = λ w same barred. size-gives w at file e (subst (λ d. HasOpenFile d at.node at.fh) (sym same) k);
       over = λ w low small. size-over w unique at file low (small refl);
       answers = λ w. refl;
       success = λ w. refl;
@@ -106,7 +106,7 @@ read-over w unique at file off len small = record {
   fits = (tt, tt);
 }
 
-pub read-on : (s : State) (unique : ℕ) (at : FileRef) (file off len : ℕ) → len ≤ max_transfer → IsHandle s at file → IsOnFile s (message unique at.node (read_request at off len)) file (ops.Read off len) (read_reply file off len)
+pub read-on : {bar : Option ℕ} (s : State) (unique : ℕ) (at : FileRef) (file off len : ℕ) → len ≤ max_transfer → IsHandle s at file → IsOnFile s bar (message unique at.node (read_request at off len)) file (ops.Read off len) (read_reply file off len)
 unfolding read_reply is_data is_on_file is_forget answer_in file_answer answer form_of
 read-on s unique at file off len small h =
     let e = h.node in
@@ -118,7 +118,7 @@ read-on s unique at file off len small h =
       node = e;
       started = k.started;
       known = is_known-open s at.node at.fh k;
-      gives = λ w same. (read-succeeds w at file off len e (subst (λ d. HasOpenFile d at.node at.fh) (sym same) k) small).gives;
+      gives = λ w same barred. (read-succeeds w at file off len e (subst (λ d. HasOpenFile d at.node at.fh) (sym same) k) small).gives;
       over = λ w low size. read-over w unique at file off len small;
       answers = λ w. refl;
       success = λ w. refl;
@@ -140,7 +140,7 @@ write-over : (w : World) (unique : ℕ) (at : FileRef) (off : ℕ) (bytes : List
 unfolding write_reply kind_of reply_form form_of is_reply reply_parts write_out FitsParts
 write-over w unique at off bytes small = record { good = refl; formed = refl; fits = (omega (arith, small), (tt, tt)) }
 
-pub write-on : (s : State) (unique : ℕ) (at : FileRef) (file off : ℕ) (bytes : List ℕ) → length bytes ≤ max_transfer → off + length bytes ≤ max_file → IsHandle s at file → IsOnFile s (message unique at.node (write_request at off bytes)) file (ops.Write off bytes) (write_reply bytes)
+pub write-on : {bar : Option ℕ} (s : State) (unique : ℕ) (at : FileRef) (file off : ℕ) (bytes : List ℕ) → length bytes ≤ max_transfer → off + length bytes ≤ max_file → IsHandle s at file → IsOnFile s bar (message unique at.node (write_request at off bytes)) file (ops.Write off bytes) (write_reply bytes)
 unfolding write_reply is_data is_on_file is_forget answer_in file_answer answer form_of
 write-on s unique at file off bytes small within h =
     let e = h.node in
@@ -152,7 +152,7 @@ write-on s unique at file off bytes small within h =
       node = e;
       started = k.started;
       known = is_known-open s at.node at.fh k;
-      gives = λ w same. (write-succeeds w at file off bytes e (subst (λ d. HasOpenFile d at.node at.fh) (sym same) k) small within).gives;
+      gives = λ w same barred. (write-succeeds w at file off bytes e (subst (λ d. HasOpenFile d at.node at.fh) (sym same) k) small within).gives;
       over = λ w low size. write-over w unique at off bytes small;
       answers = λ w. refl;
       success = λ w. refl;

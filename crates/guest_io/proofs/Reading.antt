@@ -44,6 +44,9 @@ pub KeepsRounds-same : {T : Type 0} (s t : MapView) (r : Result T Refusal) → t
 KeepsRounds-same s t (Ok d) e = e
 KeepsRounds-same s t (Err (refusals.Busy looked)) e = e
 KeepsRounds-same s t (Err (refusals.Errno number)) e = e
+KeepsRounds-same s t (Err (refusals.Leased count)) e = e
+KeepsRounds-same s t (Err (refusals.NoHold hold)) e = e
+KeepsRounds-same s t (Err (refusals.Past end)) e = e
 KeepsRounds-same s t (Err (refusals.BadReply bytes)) e = e
 KeepsRounds-same s t (Err refusals.WireFault) e = e
 KeepsRounds-same s t (Err refusals.Memory) e = tt
@@ -53,6 +56,9 @@ KeepsRounds-sent s t call way r k = KeepsRounds-same s.map t.map r (ap (λ (x : 
 
 pub IsRefused-sent : (s t : Stand) (file call : ℕ) (op : Op) (way : Way) (off len : ℕ) (e : Refusal) → SendsRest s call way t → NoLooks s.map → Sends s file call op way (Err e) t → IsRefused s file call op off len e t
 IsRefused-sent s t file call op way off len (refusals.Busy looked) k looks h = absurd h
+IsRefused-sent s t file call op way off len (refusals.Leased count) k looks h = absurd h
+IsRefused-sent s t file call op way off len (refusals.NoHold hold) k looks h = absurd h
+IsRefused-sent s t file call op way off len (refusals.Past end) k looks h = absurd h
 IsRefused-sent s t file call op way off len (refusals.Errno number) k looks h = (no-looks s.map t.map k.map looks, h)
 IsRefused-sent s t file call op way off len (refusals.BadReply bytes) k looks h = (no-looks s.map t.map k.map looks, h)
 IsRefused-sent s t file call op way off len refusals.WireFault k looks (not_honest, rose) = (no-looks s.map t.map k.map looks, not_honest, rose)

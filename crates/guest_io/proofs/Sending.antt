@@ -56,7 +56,7 @@ leaves-same : (w : WireView) (old : World) (m : Message) (file : ℕ) (op : Op) 
 leaves-same w old m file op reply new e = record { state = ap (λ (v : World). v.state) e; files = inl (ap (λ (v : World). v.files) e) }
 
 pub leaves : {S V : Type 0} (wire : S → WireView) (gives : S → Boards → Sent → Result (List ℕ) WireError → S → Boards → Type 0) (says : V → Reply → Type 0) (before : S) (old : Boards) (m : Message) (file : ℕ) (op : Op) (reply : World → Reply) (result : Result V WireRefusal) (after : S) (new : Boards)
-    → Answers wire gives says before old m result after new → (wire before).honest ≡ true → IsOnFile (wire before).state m file op reply → Leaves (wire before) (world_at (wire before) old) m file op reply (world_at (wire after) new)
+    → Answers wire gives says before old m result after new → (wire before).honest ≡ true → IsOnFile (wire before).state old.files.hands.bar m file op reply → Leaves (wire before) (world_at (wire before) old) m file op reply (world_at (wire after) new)
 leaves wire gives says before old m file op reply (Ok v) after new (bytes, came, judged) honest h =
     leaves-carried (wire before) (world_at (wire before) old) m file op reply bytes (world_at (wire after) new) (carries (wire before) (world_at (wire before) old) m file op reply bytes (world_at (wire after) new) refl came.spelled h (came.honest honest))
 leaves wire gives says before old m file op reply (Err (wires.Errno number)) after new (bytes, came, judged) honest h =
@@ -135,7 +135,7 @@ pub record Enters (s : Stand) (file call : ℕ) (op : Op) (way : Way) (reply : R
   pub place : ℕ
   pub directs : Directs s.files file call way op (record { place = place; answer = answer_in reply }) t.files
 
-pub enters-carried : (s t : Stand) (call : ℕ) (way : Way) (m : Message) (file : ℕ) (op : Op) (reply : World → Reply) (bytes : List ℕ) → file < length s.files.files → s.files.hands.turn ≡ None → IsOnFile s.wire.state m file op reply
+pub enters-carried : (s t : Stand) (call : ℕ) (way : Way) (m : Message) (file : ℕ) (op : Op) (reply : World → Reply) (bytes : List ℕ) → file < length s.files.files → s.files.hands.turn ≡ None → IsOnFile s.wire.state s.files.hands.bar m file op reply
     → (c : Carries s.wire (world_at s.wire (boards (marked s.files call way) s.map)) m file op reply bytes (world_at t.wire (boards t.files t.map))) → Enters s file call op way (reply (served_in s.wire.stays (world_at s.wire (boards (marked s.files call way) s.map)) file c.more)) t
 enters-carried s t call way m file op reply bytes within free h c =
     let v = marked s.files call way in
@@ -174,6 +174,9 @@ Sends-entered s t file call op way before unique reply (Err (refusals.BadReply b
 Sends-entered s t file call op way before unique reply (Err refusals.Memory) sound is nothing h = λ honest. inr (record { place = (h honest).place; answer = answer_in reply }, (h honest).directs)
 Sends-entered s t file call op way before unique reply (Err (refusals.Busy looked)) sound is e h = absurd e
 Sends-entered s t file call op way before unique reply (Err (refusals.Errno number)) sound is e h = absurd e
+Sends-entered s t file call op way before unique reply (Err (refusals.Leased count)) sound is e h = absurd e
+Sends-entered s t file call op way before unique reply (Err (refusals.NoHold hold)) sound is e h = absurd e
+Sends-entered s t file call op way before unique reply (Err (refusals.Past end)) sound is e h = absurd e
 Sends-entered s t file call op way before unique reply (Err refusals.WireFault) sound is e h = absurd e
 
 -- ---- the reply that is brought back
@@ -194,7 +197,7 @@ is-some n r some e = true≢false (sym (subst (λ (x : Reply). IsSome (form_of x
 -- a value was answered that says the reply
 pub enters-answered : {S V : Type 0} (wire : S → WireView) (gives : S → Boards → Sent → Result (List ℕ) WireError → S → Boards → Type 0) (says : V → Reply → Type 0) (before : S) (old : Boards) (call : ℕ) (way : Way) (m : Message) (file : ℕ) (op : Op) (reply : World → Reply) (v : V) (said : Reply) (after : S) (new : Boards)
     → Answers wire gives says before (boards (marked old.files call way) old.map) m (Ok v) after new → ((r : Reply) → says v r → r ≡ said)
-    → file < length old.files.files → old.files.hands.turn ≡ None → IsSoundBoard new.files file → IsOnFile (wire before).state m file op reply → (wire before).honest ≡ true → Enters (stand (wire before) old.files old.map) file call op way said (stand (wire after) new.files new.map)
+    → file < length old.files.files → old.files.hands.turn ≡ None → IsSoundBoard new.files file → IsOnFile (wire before).state old.files.hands.bar m file op reply → (wire before).honest ≡ true → Enters (stand (wire before) old.files old.map) file call op way said (stand (wire after) new.files new.map)
 enters-answered wire gives says before old call way m file op reply v said after new (bytes, came, (r, is, by)) to within free sound h honest =
     let s = stand (wire before) old.files old.map in
     let t = stand (wire after) new.files new.map in
@@ -208,7 +211,7 @@ enters-answered wire gives says before old call way m file op reply v said after
 -- ---- why it was refused
 
 -- after want of memory: nothing, or its entry
-undone-or-done : (s t : Stand) (call : ℕ) (way : Way) (m : Message) (file : ℕ) (op : Op) (reply : World → Reply) → file < length s.files.files → s.files.hands.turn ≡ None → IsOnFile s.wire.state m file op reply
+undone-or-done : (s t : Stand) (call : ℕ) (way : Way) (m : Message) (file : ℕ) (op : Op) (reply : World → Reply) → file < length s.files.files → s.files.hands.turn ≡ None → IsOnFile s.wire.state s.files.hands.bar m file op reply
     → Leaves s.wire (world_at s.wire (boards (marked s.files call way) s.map)) m file op reply (world_at t.wire (boards t.files t.map)) → IsUndone s.files file t.files ⊎ ((d : Done) × Directs s.files file call way op d t.files)
 undone-or-done s t call way m file op reply within free h l =
     let v = marked s.files call way in
@@ -223,7 +226,7 @@ undone-or-done s t call way m file op reply within free h l =
 
 pub Sends-refused : {S V : Type 0} (wire : S → WireView) (gives : S → Boards → Sent → Result (List ℕ) WireError → S → Boards → Type 0) (says : V → Reply → Type 0) (before : S) (old : Boards) (call : ℕ) (way : Way) (m : Message) (file : ℕ) (op : Op) (reply : World → Reply) (refusal : WireRefusal) (after : S) (new : Boards) (e : Refusal)
     → Answers wire gives says before (boards (marked old.files call way) old.map) m (Err refusal) after new → IsRefusalOf refusal e
-    → file < length old.files.files → old.files.hands.turn ≡ None → IsSoundBoard new.files file → ((wire before).honest ≡ true → IsOnFile (wire before).state m file op reply) → Sends (stand (wire before) old.files old.map) file call op way (Err e) (stand (wire after) new.files new.map)
+    → file < length old.files.files → old.files.hands.turn ≡ None → IsSoundBoard new.files file → ((wire before).honest ≡ true → IsOnFile (wire before).state old.files.hands.bar m file op reply) → Sends (stand (wire before) old.files old.map) file call op way (Err e) (stand (wire after) new.files new.map)
 Sends-refused wire gives says before old call way m file op reply (wires.Errno number) after new e (bytes, came, is) of within free sound h =
     rw of (not-true (wire before).honest (λ honest.
     let s = stand (wire before) old.files old.map in
@@ -254,7 +257,7 @@ pub record Asks {S V : Type 0} (wire : S → WireView) (gives : S → Boards →
   pub within : file < length old.files.files
   pub free : old.files.hands.turn ≡ None
   pub sound : IsSoundBoard new.files file
-  pub on_file : (wire before).honest ≡ true → IsOnFile (wire before).state m file op reply
+  pub on_file : (wire before).honest ≡ true → IsOnFile (wire before).state old.files.hands.bar m file op reply
 
 pub asks-rest : {S V : Type 0} (wire : S → WireView) (gives : S → Boards → Sent → Result (List ℕ) WireError → S → Boards → Type 0) (says : V → Reply → Type 0) (before : S) (old : Boards) (call : ℕ) (way : Way) (m : Message) (file : ℕ) (op : Op) (reply : World → Reply) (result : Result V WireRefusal) (after : S) (new : Boards)
     → Asks wire gives says before old call way m file op reply result after new → SendsRest (stand (wire before) old.files old.map) call way (stand (wire after) new.files new.map)

@@ -55,6 +55,9 @@ IsBusy old file off len looked new = (0 < range_count old) × (looked ≡ looks_
 -- The refusal of a call on an interval of a file. Over an honest wire it is in no history, but that want of memory may come after the call's one entry.
 abbrev pub IsRefused : Stand → ℕ → ℕ → Op → ℕ → ℕ → Refusal → Stand → Type 0
 IsRefused old file call op off len (refusals.Busy looked) new = IsBusy old.map file off len looked new.map × (old.wire.honest ≡ true → IsUndone old.files file new.files)
+IsRefused old file call op off len (refusals.Leased count) new = ⊥
+IsRefused old file call op off len (refusals.NoHold hold) new = ⊥
+IsRefused old file call op off len (refusals.Past end) new = ⊥
 IsRefused old file call op off len (refusals.Errno number) new = NoLooks new.map × (old.wire.honest ≡ false)
 IsRefused old file call op off len (refusals.BadReply bytes) new = NoLooks new.map × (old.wire.honest ≡ false)
 IsRefused old file call op off len refusals.WireFault new = NoLooks new.map × (old.wire.honest ≡ false) × Rose old.wire.faults new.wire.faults

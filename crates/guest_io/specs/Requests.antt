@@ -80,6 +80,9 @@ IsNewest old file place new = (last_of (file_at new file).own ≡ Some place) ×
 abbrev pub Sends : Stand → ℕ → ℕ → Op → Way → Result Done Refusal → Stand → Type 0
 Sends old file call op way (Ok d) new = IsNewest old.files file d.place new.files × (old.wire.honest ≡ true → Directs old.files file call way op d new.files)
 Sends old file call op way (Err (refusals.Busy looked)) new = ⊥
+Sends old file call op way (Err (refusals.Leased count)) new = ⊥
+Sends old file call op way (Err (refusals.NoHold hold)) new = ⊥
+Sends old file call op way (Err (refusals.Past end)) new = ⊥
 Sends old file call op way (Err (refusals.Errno number)) new = old.wire.honest ≡ false
 Sends old file call op way (Err (refusals.BadReply bytes)) new = old.wire.honest ≡ false
 Sends old file call op way (Err refusals.WireFault) new = (old.wire.honest ≡ false) × Rose old.wire.faults new.wire.faults

@@ -1,5 +1,5 @@
 use page_map::Look;
-use plain_file::{Answer, Blob, List};
+use plain_file::{Answer, Blob, List, Through};
 use thiserror::Error;
 
 /// A call that was done.
@@ -11,6 +11,16 @@ pub struct Done {
     pub answer: Answer,
 }
 
+/// A hold that was granted.
+#[derive(Clone, Copy, Debug, PartialEq, Eq)]
+pub struct Held {
+    /// Where the bytes of the file end that may be loaded and stored, in bytes from the file's start: at the
+    /// chunk's end, or at the file's size as it was noted.
+    pub end: u64,
+    /// The placement that the hold goes through.
+    pub through: Through,
+}
+
 /// Why a call wasn't done.
 #[derive(Debug, Drop, Error)]
 pub enum Refusal {
@@ -19,6 +29,24 @@ pub enum Refusal {
     Busy {
         /// A look at each range, in order of ranges.
         looked: List<Look>,
+    },
+    /// The file is leased, and so can't be truncated.
+    #[error("{count} leases on the file")]
+    Leased {
+        /// How many leases were seen on the file.
+        count: u32,
+    },
+    /// The hold wasn't granted, or is released.
+    #[error("hold {hold} isn't granted")]
+    NoHold {
+        /// The hold's number.
+        hold: u32,
+    },
+    /// The access ends above the hold's end.
+    #[error("the hold ends at byte {end} of the file")]
+    Past {
+        /// The hold's end.
+        end: u64,
     },
     /// A request was answered with an error.
     #[error("error {number}")]

@@ -25,7 +25,7 @@ use std::alloc::Global;
 use std::sync::Wait;
 
 // The refusal of a guest's ranges as one of this crate.
-fn refusal_of_dax(refusal: DaxRefusal) -> Refusal
+pub(crate) fn refusal_of_dax(refusal: DaxRefusal) -> Refusal
     ensures { IsOfDax refusal result }
 {
     match refusal {
@@ -42,7 +42,7 @@ where
     W: Wire<F, R>,
 {
     // Pins a chunk of a file, which is placed where it isn't yet.
-    fn get_chunk<T: Wait>(
+    pub(crate) fn get_chunk<T: Wait>(
         &mut self,
         rt: &T,
         alloc: Global,
@@ -64,6 +64,7 @@ where
         ensures quiet { (R.map self.old.dax.ranges).ranges.others ≡ false → IsPlacedFor (log_at (R.map self.old.dax.ranges) file) chunk mode → self.new.dax.driver ≡ self.old.dax.driver }
         ensures still { (R.map self.old.dax.ranges).ranges.others ≡ false → IsPlacedFor (log_at (R.map self.old.dax.ranges) file) chunk mode → (R.map self.new.dax.ranges).ranges.logs ≡ (R.map self.old.dax.ranges).ranges.logs }
         ensures refs { self.new.dax.refs ≡ self.old.dax.refs }
+        ensures holds { self.new.holds ≡ self.old.holds }
     {
         match self.dax.pin_chunk(rt, alloc, file, chunk, mode) {
             Ok(Some(pinned)) => return Ok(pinned),
@@ -99,6 +100,7 @@ where
         ensures rounds { StaysRounds (R.map self.old.dax.ranges) result (R.map self.new.dax.ranges) }
         ensures quiet { (R.map self.old.dax.ranges).ranges.others ≡ false → IsPlacedFor (log_at (R.map self.old.dax.ranges) file) chunk mode → self.new.dax.driver ≡ self.old.dax.driver }
         ensures refs { self.new.dax.refs ≡ self.old.dax.refs }
+        ensures holds { self.new.holds ≡ self.old.holds }
     {
         match self.get_chunk(rt, alloc, file, chunk, mode) {
             Ok(pinned) => Ok(Pins {
@@ -137,6 +139,7 @@ where
         ensures rounds { StaysRounds (R.map self.old.dax.ranges) result (R.map self.new.dax.ranges) }
         ensures quiet { (R.map self.old.dax.ranges).ranges.others ≡ false → ArePlaced (log_at (R.map self.old.dax.ranges) file) off len mode → self.new.dax.driver ≡ self.old.dax.driver }
         ensures refs { self.new.dax.refs ≡ self.old.dax.refs }
+        ensures holds { self.new.holds ≡ self.old.holds }
     {
         let chunk = chunk_at(off);
         let last = chunk_at(off + len - 1);
@@ -175,6 +178,7 @@ where
         ensures back { IsGivenBack (R.map self.old.dax.ranges) first second (R.map self.new.dax.ranges) }
         ensures driver { self.new.dax.driver ≡ self.old.dax.driver }
         ensures refs { self.new.dax.refs ≡ self.old.dax.refs }
+        ensures holds { self.new.holds ≡ self.old.holds }
     {
         let target = self.dax.ranges.target(first.range).unwrap();
         look_at_second(&mut self.dax.ranges, second);
@@ -214,6 +218,7 @@ where
         ensures rounds { KeepsRounds (R.map self.old.dax.ranges) result (R.map self.new.dax.ranges) }
         ensures quiet { (R.map self.old.dax.ranges).ranges.others ≡ false → ArePlaced (log_at (R.map self.old.dax.ranges) file) off len mode → self.new.dax.driver ≡ self.old.dax.driver }
         ensures refs { self.new.dax.refs ≡ self.old.dax.refs }
+        ensures holds { self.new.holds ≡ self.old.holds }
     {
         match self.get_chunks(rt, alloc, file, off, len, mode) {
             Ok(pins) => match self.go_through(rt, alloc, call, file, pins.first, pins.second, op) {

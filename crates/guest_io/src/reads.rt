@@ -63,6 +63,7 @@ where
         ensures rounds { KeepsRounds (R.map self.old.dax.ranges) result (R.map self.new.dax.ranges) }
         ensures quiet { 0 < range_count (R.map self.old.dax.ranges) → (R.map self.old.dax.ranges).ranges.others ≡ false → ArePlaced (log_at (R.map self.old.dax.ranges) file) off len modes.R → self.new.dax.driver ≡ self.old.dax.driver }
         ensures refs { self.new.dax.refs ≡ self.old.dax.refs }
+        ensures holds { self.new.holds ≡ self.old.holds }
     {
         let count = self.dax.ranges.ranges();
         if count == 0 {

@@ -20,7 +20,7 @@ use std::alloc::Global;
 use std::sync::Wait;
 
 // The reference to a file.
-fn ref_of(refs: &List<FileRef>, file: u32) -> FileRef
+pub(crate) fn ref_of(refs: &List<FileRef>, file: u32) -> FileRef
     requires { file < length refs.now }
     ensures { result ≡ ref_at refs.now file }
 {
@@ -28,7 +28,7 @@ fn ref_of(refs: &List<FileRef>, file: u32) -> FileRef
 }
 
 // The refusal of a request as one of this crate.
-fn refusal_of(refusal: WireRefusal) -> Refusal
+pub(crate) fn refusal_of(refusal: WireRefusal) -> Refusal
     ensures { IsRefusalOf refusal result }
 {
     match refusal {
@@ -64,7 +64,7 @@ fn not_done(alloc: Global, unique: u64, reply: &Reply) -> Refusal
 }
 
 // What a reply comes to: done, where the file has a new entry of the board; else its bytes.
-fn enter_reply<F: FileBoard>(
+pub(crate) fn enter_reply<F: FileBoard>(
     alloc: Global,
     files: &F,
     file: u32,
@@ -114,6 +114,7 @@ where
         ensures leaves { LeavesAll (stand (W.wire self.old.dax.driver.wire) (F.board self.old.dax.files) (R.map self.old.dax.ranges)) (stand (W.wire self.new.dax.driver.wire) (F.board self.new.dax.files) (R.map self.new.dax.ranges)) }
         ensures rounds { KeepsRounds (R.map self.old.dax.ranges) result (R.map self.new.dax.ranges) }
         ensures refs { self.new.dax.refs ≡ self.old.dax.refs }
+        ensures holds { self.new.holds ≡ self.old.holds }
     {
         let at = ref_of(&self.dax.refs, file);
         self.dax.files.sound(file);
@@ -158,6 +159,7 @@ where
         ensures rest { SendsRest (stand (W.wire self.old.dax.driver.wire) (F.board self.old.dax.files) (R.map self.old.dax.ranges)) call ways.Req (stand (W.wire self.new.dax.driver.wire) (F.board self.new.dax.files) (R.map self.new.dax.ranges)) }
         ensures sends { Sends (stand (W.wire self.old.dax.driver.wire) (F.board self.old.dax.files) (R.map self.old.dax.ranges)) file call (ops.Read off len) ways.Req result (stand (W.wire self.new.dax.driver.wire) (F.board self.new.dax.files) (R.map self.new.dax.ranges)) }
         ensures refs { self.new.dax.refs ≡ self.old.dax.refs }
+        ensures holds { self.new.holds ≡ self.old.holds }
     {
         let at = ref_of(&self.dax.refs, file);
         self.dax.files.sound(file);
@@ -204,6 +206,7 @@ where
         ensures sends { Sends (stand (W.wire self.old.dax.driver.wire) (F.board self.old.dax.files) (R.map self.old.dax.ranges)) file call (ops.Write off bytes.now) way result (stand (W.wire self.new.dax.driver.wire) (F.board self.new.dax.files) (R.map self.new.dax.ranges)) }
         ensures closes { IfOk result (λ d. (W.wire self.old.dax.driver.wire).honest ≡ true → (W.wire self.old.dax.driver.wire).stays ≡ true → ClosesNotes (file_at (F.board self.old.dax.files) file) (file_at (F.board self.new.dax.files) file)) }
         ensures refs { self.new.dax.refs ≡ self.old.dax.refs }
+        ensures holds { self.new.holds ≡ self.old.holds }
     {
         let at = ref_of(&self.dax.refs, file);
         self.dax.files.sound(file);

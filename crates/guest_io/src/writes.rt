@@ -52,6 +52,7 @@ where
         ensures rounds { KeepsRounds (R.map self.old.dax.ranges) result (R.map self.new.dax.ranges) }
         ensures quiet { (R.map self.old.dax.ranges).ranges.others ≡ false → ArePlaced (log_at (R.map self.old.dax.ranges) file) off (length bytes.now) modes.W → self.new.dax.driver ≡ self.old.dax.driver }
         ensures refs { self.new.dax.refs ≡ self.old.dax.refs }
+        ensures holds { self.new.holds ≡ self.old.holds }
     {
         let len = bytes.len() as u64;
         match Blob::copy_of(alloc, bytes) {
@@ -93,6 +94,7 @@ where
         ensures rounds { KeepsRounds (R.map self.old.dax.ranges) result (R.map self.new.dax.ranges) }
         ensures quiet { (R.map self.old.dax.ranges).ranges.others ≡ false → (F.board self.old.dax.files).plain ≡ true → off + length bytes.now ≤ size_of (file_at (F.board self.old.dax.files) file) → ArePlaced (log_at (R.map self.old.dax.ranges) file) off (length bytes.now) modes.W → self.new.dax.driver ≡ self.old.dax.driver }
         ensures refs { self.new.dax.refs ≡ self.old.dax.refs }
+        ensures holds { self.new.holds ≡ self.old.holds }
     {
         self.dax.files.sound(file);
         let seen = self.dax.files.lease(rt, file);
@@ -150,6 +152,7 @@ where
         ensures rounds { KeepsRounds (R.map self.old.dax.ranges) result (R.map self.new.dax.ranges) }
         ensures quiet { 0 < range_count (R.map self.old.dax.ranges) → (R.map self.old.dax.ranges).ranges.others ≡ false → (F.board self.old.dax.files).plain ≡ true → off + length bytes.now ≤ size_of (file_at (F.board self.old.dax.files) file) → ArePlaced (log_at (R.map self.old.dax.ranges) file) off (length bytes.now) modes.W → self.new.dax.driver ≡ self.old.dax.driver }
         ensures refs { self.new.dax.refs ≡ self.old.dax.refs }
+        ensures holds { self.new.holds ≡ self.old.holds }
     {
         let count = self.dax.ranges.ranges();
         if count == 0 {

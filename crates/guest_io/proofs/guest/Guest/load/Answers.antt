@@ -1,0 +1,26 @@
+use Rattle.std.proofs.Common.{subst, Result, arith}
+use Rattle.plain_file.specs.File.{reach}
+use Rattle.guest_dax.specs.Stands.{stand}
+use Rattle.guest_io.specs.declared.calls.Refusal.{Refusal}
+use Rattle.guest_io.specs.declared.guest.Granted.{Granted}
+use Rattle.guest_io.specs.Holds.{FindsHold}
+use Rattle.guest_io.proofs.Passing.{LeavesAll-same}
+use Rattle.guest_io.proofs.HoldAccess.{chunk-small}
+use Rattle.guest_io.proofs.guest.Guest.load.Goals as goal
+
+pub find-requires-clause-small : goal.find-requires-clause-small
+find-requires-clause-small g c =
+    let s = stand (g.W.Wire.wire c.args.self.now.dax.driver.wire) (g.F.FileBoard.board c.args.self.now.dax.files) (g.R.MapBoard.map c.args.self.now.dax.ranges) in
+    chunk-small s c.args.self.now.holds c.args.hold c.requires.holds
+
+pub start-requires : goal.start-requires
+start-requires g c =
+    let within = subst (λ (r : Result Granted Refusal). FindsHold c.args.self.now.holds c.args.hold c.args.off c.args.len r) c.in-Ok.is c.find.ensures in
+    (c.requires.holds.each c.args.hold c.in-Ok.granted within.granted).chunk
+
+pub go_held-requires-clause-fits : goal.go_held-requires-clause-fits
+unfolding reach
+go_held-requires-clause-fits g c = omega arith
+
+pub returns-in-Err-clause-leaves : goal.returns-in-Err-clause-leaves
+returns-in-Err-clause-leaves g c = LeavesAll-same (stand (g.W.Wire.wire c.args.self.now.dax.driver.wire) (g.F.FileBoard.board c.args.self.now.dax.files) (g.R.MapBoard.map c.args.self.now.dax.ranges))

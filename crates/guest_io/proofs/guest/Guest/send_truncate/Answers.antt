@@ -1,0 +1,111 @@
+use Rattle.std.proofs.Common.{◌≡◌, refl, arith, Ok, Err}
+use Rattle.fuse_codec.specs.Replies.{is_reply}
+use Rattle.fuse_codec.specs.declared.replies.Reply.TheVariants as replies
+use Rattle.plain_file.specs.declared.operations.Op.TheVariants as ops
+use Rattle.plain_file.specs.declared.operations.Way.TheVariants as ways
+use Rattle.fuse_device.specs.Promises.{Needs}
+use Rattle.guest_wire.specs.Wires.{boards}
+use Rattle.guest_wire.specs.Requests.{message, next_number, setattr_request}
+use Rattle.guest_dax.specs.Stands.{stand}
+use Rattle.guest_io.proofs.OnFiles.{handle-of}
+use Rattle.guest_io.proofs.Sending.{Asks, asks-home, asks-answered, asks-refused, CanAsk-marked}
+use Rattle.guest_io.proofs.Truncating.{truncate-on, truncate_reply}
+use Rattle.guest_io.proofs.guest.Guest.send_truncate.Goals as goal
+
+pub setattr_size-sent-requires : goal.setattr_size-sent-requires
+unfolding Needs
+setattr_size-sent-requires g c =
+    let s = stand (g.W.Wire.wire c.args.self.now.dax.driver.wire) (g.F.FileBoard.board c.args.self.now.dax.files) (g.R.MapBoard.map c.args.self.now.dax.ranges) in
+    record { boards = CanAsk-marked s c.args.self.now.dax.refs c.args.call ways.Req (g.F.FileBoard.board c.mark.new.self) (setattr_request c.ref_of-at.result c.args.size) c.mark.ensures tt c.requires.home.stands }
+
+pub returns-in-Ok-clause-home : goal.returns-in-Ok-clause-home
+returns-in-Ok-clause-home g c =
+    let old = boards (g.F.FileBoard.board c.args.self.now.dax.files) (g.R.MapBoard.map c.args.self.now.dax.ranges) in
+    let new = boards (g.F.FileBoard.board c.setattr_size-sent.new.files) (g.R.MapBoard.map c.setattr_size-sent.new.map) in
+    let before = c.args.self.now.dax.driver.wire in
+    let after = c.setattr_size-sent.new.self.wire in
+    let at = c.ref_of-at.result in
+    let m = message (next_number c.args.self.now.dax.driver.unique) at.node (setattr_request c.ref_of-at.result c.args.size) in
+    let s = stand (g.W.Wire.wire before) old.files old.map in
+    let asks : Asks g.W.Wire.wire g.W.Wire.gives (λ out r. r ≡ replies.Attr out) before old c.args.call ways.Req m c.args.file (ops.Truncate c.args.size) (truncate_reply at.node c.args.size) (c.setattr_size-sent.result) after new = record {
+      asked = g.F.FileBoard.board c.mark.new.self;
+      marks = c.mark.ensures;
+      answer = c.setattr_size-sent.ensures.answer;
+      keeps = c.setattr_size-sent.ensures.wire;
+      both = c.setattr_size-sent.ensures.boards;
+      within = omega (arith, c.requires.file, c.requires.home.stands.refs_of);
+      free = c.requires.home.stands.turn;
+      sound = c.sound-2.ensures;
+      on_file = λ honest. truncate-on (g.W.Wire.wire before).state old.files.hands.bar (next_number c.args.self.now.dax.driver.unique) at c.args.file c.args.size c.requires.size c.requires.bar (handle-of s c.args.self.now.dax.refs at c.args.file c.requires.home.stands c.requires.file c.ref_of-at.ensures honest);
+    } in
+    asks-home g.W.Wire.wire g.W.Wire.gives (λ out r. r ≡ replies.Attr out) before old c.args.call ways.Req m c.args.file (ops.Truncate c.args.size) (truncate_reply at.node c.args.size) c.setattr_size-sent.result after new c.args.self.now.dax.refs asks c.requires.home
+
+pub returns-in-Err-clause-home : goal.returns-in-Err-clause-home
+returns-in-Err-clause-home g c =
+    let old = boards (g.F.FileBoard.board c.args.self.now.dax.files) (g.R.MapBoard.map c.args.self.now.dax.ranges) in
+    let new = boards (g.F.FileBoard.board c.setattr_size-sent.new.files) (g.R.MapBoard.map c.setattr_size-sent.new.map) in
+    let before = c.args.self.now.dax.driver.wire in
+    let after = c.setattr_size-sent.new.self.wire in
+    let at = c.ref_of-at.result in
+    let m = message (next_number c.args.self.now.dax.driver.unique) at.node (setattr_request c.ref_of-at.result c.args.size) in
+    let s = stand (g.W.Wire.wire before) old.files old.map in
+    let asks : Asks g.W.Wire.wire g.W.Wire.gives (λ out r. r ≡ replies.Attr out) before old c.args.call ways.Req m c.args.file (ops.Truncate c.args.size) (truncate_reply at.node c.args.size) (c.setattr_size-sent.result) after new = record {
+      asked = g.F.FileBoard.board c.mark.new.self;
+      marks = c.mark.ensures;
+      answer = c.setattr_size-sent.ensures.answer;
+      keeps = c.setattr_size-sent.ensures.wire;
+      both = c.setattr_size-sent.ensures.boards;
+      within = omega (arith, c.requires.file, c.requires.home.stands.refs_of);
+      free = c.requires.home.stands.turn;
+      sound = c.sound-2.ensures;
+      on_file = λ honest. truncate-on (g.W.Wire.wire before).state old.files.hands.bar (next_number c.args.self.now.dax.driver.unique) at c.args.file c.args.size c.requires.size c.requires.bar (handle-of s c.args.self.now.dax.refs at c.args.file c.requires.home.stands c.requires.file c.ref_of-at.ensures honest);
+    } in
+    asks-home g.W.Wire.wire g.W.Wire.gives (λ out r. r ≡ replies.Attr out) before old c.args.call ways.Req m c.args.file (ops.Truncate c.args.size) (truncate_reply at.node c.args.size) c.setattr_size-sent.result after new c.args.self.now.dax.refs asks c.requires.home
+
+pub returns-in-Ok-clause-sends : goal.returns-in-Ok-clause-sends
+returns-in-Ok-clause-sends g c =
+    let old = boards (g.F.FileBoard.board c.args.self.now.dax.files) (g.R.MapBoard.map c.args.self.now.dax.ranges) in
+    let new = boards (g.F.FileBoard.board c.setattr_size-sent.new.files) (g.R.MapBoard.map c.setattr_size-sent.new.map) in
+    let before = c.args.self.now.dax.driver.wire in
+    let after = c.setattr_size-sent.new.self.wire in
+    let at = c.ref_of-at.result in
+    let m = message (next_number c.args.self.now.dax.driver.unique) at.node (setattr_request c.ref_of-at.result c.args.size) in
+    let s = stand (g.W.Wire.wire before) old.files old.map in
+    let asks : Asks g.W.Wire.wire g.W.Wire.gives (λ out r. r ≡ replies.Attr out) before old c.args.call ways.Req m c.args.file (ops.Truncate c.args.size) (truncate_reply at.node c.args.size) (Ok c.in-Ok.out) after new = record {
+      asked = g.F.FileBoard.board c.mark.new.self;
+      marks = c.mark.ensures;
+      answer = c.in-Ok.ensures.answer;
+      keeps = c.setattr_size-sent.ensures.wire;
+      both = c.setattr_size-sent.ensures.boards;
+      within = omega (arith, c.requires.file, c.requires.home.stands.refs_of);
+      free = c.requires.home.stands.turn;
+      sound = c.sound-2.ensures;
+      on_file = λ honest. truncate-on (g.W.Wire.wire before).state old.files.hands.bar (next_number c.args.self.now.dax.driver.unique) at c.args.file c.args.size c.requires.size c.requires.bar (handle-of s c.args.self.now.dax.refs at c.args.file c.requires.home.stands c.requires.file c.ref_of-at.ensures honest);
+    } in
+    asks-answered g.W.Wire.wire g.W.Wire.gives (λ out r. r ≡ replies.Attr out) before old c.args.call ways.Req m c.args.file (ops.Truncate c.args.size) (truncate_reply at.node c.args.size) c.in-Ok.out (replies.Attr c.in-Ok.out) after new c.own_last-before.result c.setattr_size-sent.new.self.unique c.enter_reply.result asks (λ r e. e) c.sound.ensures c.own_last-before.ensures c.enter_reply.ensures
+
+pub returns-in-Err-clause-sends : goal.returns-in-Err-clause-sends
+returns-in-Err-clause-sends g c =
+    let old = boards (g.F.FileBoard.board c.args.self.now.dax.files) (g.R.MapBoard.map c.args.self.now.dax.ranges) in
+    let new = boards (g.F.FileBoard.board c.setattr_size-sent.new.files) (g.R.MapBoard.map c.setattr_size-sent.new.map) in
+    let before = c.args.self.now.dax.driver.wire in
+    let after = c.setattr_size-sent.new.self.wire in
+    let at = c.ref_of-at.result in
+    let m = message (next_number c.args.self.now.dax.driver.unique) at.node (setattr_request c.ref_of-at.result c.args.size) in
+    let s = stand (g.W.Wire.wire before) old.files old.map in
+    let asks : Asks g.W.Wire.wire g.W.Wire.gives (λ out r. r ≡ replies.Attr out) before old c.args.call ways.Req m c.args.file (ops.Truncate c.args.size) (truncate_reply at.node c.args.size) (Err c.in-Err.refusal) after new = record {
+      asked = g.F.FileBoard.board c.mark.new.self;
+      marks = c.mark.ensures;
+      answer = c.in-Err.ensures.answer;
+      keeps = c.setattr_size-sent.ensures.wire;
+      both = c.setattr_size-sent.ensures.boards;
+      within = omega (arith, c.requires.file, c.requires.home.stands.refs_of);
+      free = c.requires.home.stands.turn;
+      sound = c.sound-2.ensures;
+      on_file = λ honest. truncate-on (g.W.Wire.wire before).state old.files.hands.bar (next_number c.args.self.now.dax.driver.unique) at c.args.file c.args.size c.requires.size c.requires.bar (handle-of s c.args.self.now.dax.refs at c.args.file c.requires.home.stands c.requires.file c.ref_of-at.ensures honest);
+    } in
+    asks-refused g.W.Wire.wire g.W.Wire.gives (λ out r. r ≡ replies.Attr out) before old c.args.call ways.Req m c.args.file (ops.Truncate c.args.size) (truncate_reply at.node c.args.size) c.in-Err.refusal after new c.refusal_of.result asks c.refusal_of.ensures
+
+pub enter_reply-requires-clause-good : goal.enter_reply-requires-clause-good
+unfolding is_reply
+enter_reply-requires-clause-good g c = refl
