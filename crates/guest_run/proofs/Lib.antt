@@ -1,9 +1,15 @@
 pub mod Places
+pub mod Granting
 pub mod Ways
 pub mod Guests
 pub mod Asking
 pub mod AllGuests
+pub mod Unheld
 pub mod RunExamples
+pub mod Letters
 pub mod Telling
 pub mod Coming
-pub mod Stepping
+pub mod Counting
+pub mod Following
+pub mod Running
+pub mod Fairness

@@ -1,5 +1,5 @@
 -- Lists at a place.
-use Rattle.std.proofs.Common.{◌≡◌, ◌⊎◌, inl, inr, ⊎_elim, ◌∙◌, ap, sym, subst, refl, ℕ, zero, suc, ◌+◌, ◌<◌, ◌≤◌, List, [], ◌∷◌, ◌++◌, length, map, take, zip, slice_get, get_or, Option, Some, None, option_map, arith}
+use Rattle.std.proofs.Common.{◌≡◌, ◌⊎◌, inl, inr, ⊎_elim, ◌∙◌, ap, sym, subst, refl, ℕ, zero, suc, ◌+◌, ◌<◌, ◌≤◌, List, [], ◌∷◌, ◌++◌, length, map, take, drop, zip, slice_get, get_or, Option, Some, None, option_map, arith}
 use Rattle.std.specs.List.{AllByRecursion, range_with_len}
 use Rattle.std.proofs.lemmas.Option.{slice_get-get_or}
 use Rattle.plain_text.specs.Options.{◌>>=◌}
@@ -9,6 +9,11 @@ none_is x e = cc
 
 pub some_is : {A : Type 0} (x y : A) → Some x ≡ Some y → x ≡ y
 some_is x y e = cc
+
+pub below_or_from : (m n : ℕ) → (m < n) ⊎ (n ≤ m)
+below_or_from m zero = inr (omega arith)
+below_or_from zero (suc n) = inl (omega arith)
+below_or_from (suc m) (suc n) = ⊎_elim (λ (l : m < n). inl (omega (arith, l))) (λ (l : n ≤ m). inr (omega (arith, l))) (below_or_from m n)
 
 -- an element of a list with one more at its end
 pub at_end : {A : Type 0} (xs : List A) (x y : A) (n : ℕ) → slice_get (xs ++ x ∷ []) n ≡ Some y → (slice_get xs n ≡ Some y) ⊎ ((n ≡ length xs) × (x ≡ y))
@@ -35,6 +40,12 @@ pub front : {A : Type 0} (xs ys : List A) (n : ℕ) (x : A) → slice_get xs n �
 front [] ys n x e = absurd (none_is x e)
 front (y ∷ xs) ys zero x e = e
 front (y ∷ xs) ys (suc n) x e = front xs ys n x e
+
+-- what stands before the end of the front is the front's
+pub front_same : {A : Type 0} (xs ys : List A) (n : ℕ) → n < length xs → slice_get (xs ++ ys) n ≡ slice_get xs n
+front_same [] ys n l = absurd (omega arith)
+front_same (y ∷ xs) ys zero l = refl
+front_same (y ∷ xs) ys (suc n) l = front_same xs ys n (omega arith)
 
 -- an element of the front is that of the whole
 pub in_front : {A : Type 0} (xs ys : List A) (n : ℕ) (x : A) → slice_get (xs ++ ys) n ≡ Some x → n < length xs → slice_get xs n ≡ Some x
@@ -119,6 +130,11 @@ in_take zero xs m x e = absurd (none_is x e)
 in_take (suc n) [] m x e = absurd (none_is x e)
 in_take (suc n) (y ∷ xs) zero x e = (omega arith, e)
 in_take (suc n) (y ∷ xs) (suc m) x e = let k = in_take n xs m x e in (omega arith, k.1)
+
+pub in_drop : {A : Type 0} (n : ℕ) (xs : List A) (m : ℕ) (x : A) → slice_get (drop n xs) m ≡ Some x → slice_get xs (n + m) ≡ Some x
+in_drop zero xs m x e = let z : 0 + m ≡ m = omega arith in ap (λ (k : ℕ). slice_get xs k) z ∙ e
+in_drop (suc n) [] m x e = absurd (none_is x e)
+in_drop (suc n) (y ∷ xs) m x e = let z : suc n + m ≡ suc (n + m) = omega arith in ap (λ (k : ℕ). slice_get (y ∷ xs) k) z ∙ in_drop n xs m x e
 
 -- two lists side by side
 pub in_zip : {A B : Type 0} (xs : List A) (ys : List B) (n : ℕ) (x : A) (y : B) → slice_get xs n ≡ Some x → slice_get ys n ≡ Some y → slice_get (zip xs ys) n ≡ Some (x, y)

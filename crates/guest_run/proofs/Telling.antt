@@ -1,236 +1,209 @@
--- What an answer of a guest tells: its line, with a letter for each range where none could be taken.
-use Rattle.std.proofs.Common.{◌≡◌, ◌≢◌, ◌⊎◌, ⊎_elim, ◌∙◌, ap, sym, refl, subst, inl, inr, ℕ, zero, suc, ◌+◌, ◌<◌, ◌≤◌, ◌^◌, Bool, true, false, true≢false, List, [], ◌∷◌, length, map, get_or, get_or-set_other, slice_set, Option, Some, None, Result, Ok, Err, arith}
-use Rattle.std.specs.Prelude.{IfOk, IsSome, sum}
+-- What an answer of a guest tells: its line, after which no look is noted.
+use Rattle.std.proofs.Common.{◌≡◌, ◌⊎◌, ◌∙◌, sym, subst, inl, inr, ℕ, ◌<◌, true, List, [], ◌∷◌, length, Result, Ok, Err, arith}
+use Rattle.std.specs.Prelude.{IfOk, IsSome}
 use Rattle.std.specs.List.{list_all}
 use Rattle.std.proofs.lemmas.Bool.{ne_eqb}
-use Rattle.std.proofs.lemmas.List.{length-set}
-use mathlib.Core.Logic.{dite}
-use native.Mathlib.Decide.{ℕ_discrete}
 use Rattle.plain_file.specs.declared.refusals.Memory.{Memory}
-use Rattle.page_map.specs.declared.ranges.Look.{Look}
-use Rattle.page_map.specs.declared.ranges.RangeWord.{RangeWord}
-use Rattle.page_map.specs.declared.ranges.RangeWord.TheVariants as words
-use Rattle.page_map.specs.Board.{MapView, Noted}
-use Rattle.range_tree.specs.Ranges.{range_count, pins_on, look_at, forgot, IsSoundRanges}
-use Rattle.range_tree.proofs.Whole.{pins-sum}
+use Rattle.page_map.specs.Board.{MapView}
+use Rattle.range_tree.specs.Ranges.{forgot, IsSoundRanges}
 use Rattle.transcript_text.specs.declared.transcripts.Line.{Line}
 use Rattle.transcript_text.specs.declared.transcripts.Line.TheVariants as lines
 use Rattle.transcript_text.specs.TranscriptReading.{IsPrintableLine, is_letter, is_letters}
+use Rattle.dax_script.specs.declared.scripts.Call.{Call}
 use Rattle.guest_wire.specs.declared.driver.FileRef.{FileRef}
-use Rattle.guest_dax.specs.Stands.{Stand, stand, KeepsMap}
-use Rattle.guest_dax.specs.Looks.{NoLooks, Blocks, IsBlocked, AllBlocked, looks_from}
-use Rattle.guest_dax.proofs.Forgetting.{KeepsMap-forgot, hands-forgot, NoLooks-forgot}
-use Rattle.guest_dax.proofs.Keeping.{KeepsMap-same, KeepsMap-both}
-use Rattle.guest_io.specs.declared.calls.Done.{Done}
+use Rattle.guest_dax.specs.Stands.{Stand, stand}
+use Rattle.guest_dax.specs.Looks.{NoLooks}
+use Rattle.guest_dax.proofs.Forgetting.{NoLooks-forgot}
 use Rattle.guest_io.specs.declared.calls.Refusal.{Refusal}
 use Rattle.guest_io.specs.declared.calls.Refusal.TheVariants as refusals
-use Rattle.guest_io.specs.Calls.{last_chunk, first_chunk}
+use Rattle.guest_io.specs.declared.guest.Granted.{Granted}
+use Rattle.guest_io.specs.declared.guest.Holds.{Holds}
 use Rattle.guest_io.specs.Requests.{IsHome}
-use Rattle.guest_io.specs.Going.{StaysBoard, LeavesAll, one_more_pin, IsBusy}
-use Rattle.dax_script.specs.declared.scripts.Call.{Call}
-use Rattle.guest_run.specs.Telling.{letter_of, letters_of, IsHonestAnswer, LineOf, HasFields}
-use Rattle.guest_run.specs.Working.{IsIdle, IsAlone, IsMade, IsStuck, Comes, IsGivenUp, Tells}
+use Rattle.guest_io.specs.Holds.{HasHolds, IsHold, LeavesRest}
+use Rattle.guest_run.specs.Telling.{letters_of, IsHonestAnswer, LineOf, HasFields}
+use Rattle.guest_run.specs.Working.{IsIdle, IsStuck, Comes, Tells}
 
--- ---- letters
+-- ---- a stand whose looks are forgotten
 
-letter_is : (w : RangeWord) → is_letter (letter_of w) ≡ true
-unfolding letter_of
-letter_is words.Free = refl
-letter_is (words.Moving guest) = refl
-letter_is (words.Mapped file chunk mode pins) = refl
+abbrev pub forgets : Stand → Stand
+forgets t = record t { map = forgot t.map }
 
-pub letters_are : (looked : List Look) → list_all is_letter (letters_of looked) ≡ true
-letters_are [] = refl
-letters_are (l ∷ looked) = rw (letter_is l.word) (letters_are looked)
+-- the stand after a line was told
+moved : (t u : Stand) (w : MapView) → u.wire ≡ t.wire → u.files ≡ t.files → u.map ≡ w → u ≡ stand t.wire t.files w
+moved t u w wire files map = λ i. stand (wire i) (files i) (map i)
 
-letters_long : (looked : List Look) → length (letters_of looked) ≡ length looked
-letters_long [] = refl
-letters_long (l ∷ looked) = ap suc (letters_long looked)
+line_stand : (t u : Stand) (answer : Result Line Refusal) (told : Result Line Memory) → LineOf t.map answer told u.map → u.wire ≡ t.wire → u.files ≡ t.files → (u ≡ t) ⊎ (u ≡ forgets t)
+line_stand t u (Ok l) (Ok m) h wire files = inl (moved t u t.map wire files h.1)
+line_stand t u (Ok l) (Err e) h wire files = absurd h
+line_stand t u (Err (refusals.Busy looked)) (Ok l) h wire files = inr (moved t u (forgot t.map) wire files h.1)
+line_stand t u (Err (refusals.Busy looked)) (Err e) h wire files = inr (moved t u (forgot t.map) wire files h)
+line_stand t u (Err (refusals.Leased count)) (Ok l) h wire files = inl (moved t u t.map wire files h.1)
+line_stand t u (Err (refusals.Leased count)) (Err e) h wire files = absurd h
+line_stand t u (Err (refusals.NoHold hold)) (Ok l) h wire files = inl (moved t u t.map wire files h.1)
+line_stand t u (Err (refusals.NoHold hold)) (Err e) h wire files = absurd h
+line_stand t u (Err (refusals.Past end)) (Ok l) h wire files = inl (moved t u t.map wire files h.1)
+line_stand t u (Err (refusals.Past end)) (Err e) h wire files = absurd h
+line_stand t u (Err refusals.Memory) (Ok l) h wire files = absurd h
+line_stand t u (Err refusals.Memory) (Err e) h wire files = inl (moved t u t.map wire files h)
+line_stand t u (Err (refusals.Errno n)) told h wire files = absurd h
+line_stand t u (Err (refusals.BadReply b)) told h wire files = absurd h
+line_stand t u (Err refusals.WireFault) told h wire files = absurd h
 
--- as many looks as ranges, where each one's is noted
-all_noted : (n : ℕ) (looks : List (Option Noted)) → ((r : ℕ) → r < length looks → IsSome (get_or looks r None)) → length (looks_from n looks) ≡ length looks
-unfolding looks_from
-all_noted n [] each = refl
-all_noted n (None ∷ rest) each = absurd (true≢false (sym (each zero (omega arith))))
-all_noted n (Some a ∷ rest) each = ap suc (all_noted (n + 1) rest (λ r within. each (suc r) (omega arith)))
+-- what holds of a stand, and where its looks are forgotten, holds after a line was told
+after : (P : Stand → Type 0) (t u : Stand) → P t → P (forgets t) → (u ≡ t) ⊎ (u ≡ forgets t) → P u
+after P t u here there (inl e) = subst P (sym e) here
+after P t u here there (inr e) = subst P (sym e) there
 
-noted_some : (v now : MapView) (range : ℕ) → IsBlocked v now range → IsSome (look_at now range)
-noted_some v now range b = subst IsSome (sym b.at) refl
+IsHome-forgets : (t : Stand) (refs : List FileRef) → IsHome t refs → IsHome (forgets t) refs
+IsHome-forgets t refs home = record {
+  stands = record {
+    refs_of = home.stands.refs_of;
+    logs = home.stands.logs;
+    may_take = home.stands.may_take;
+    turn = home.stands.turn;
+    serving = λ honest. let v = home.stands.serving honest in record {
+      there = v.there;
+      pages = v.pages;
+      started = v.started;
+      ready = v.ready;
+      nodes = v.nodes;
+      handles = v.handles;
+    };
+  };
+  plain = home.plain;
+}
 
-count_pinned : (v : MapView) (range : ℕ) → range_count (one_more_pin v range) ≡ range_count v
-count_pinned v range = length-set v.hands.pins range (pins_on v range + 1)
+IsHold-forgets : (t : Stand) (g : Granted) → IsHold t g → IsHold (forgets t) g
+IsHold-forgets t g x = record { file = x.file; chunk = x.chunk; through = x.through; upto = x.upto; entry = x.entry; range = x.range; pinned = x.pinned; end = x.end }
 
--- each range has a noted look
-busy_noted : (old : MapView) (file off len : ℕ) (looked : List Look) (new : MapView) → IsBusy old file off len looked new → (r : ℕ) → r < range_count old → IsSome (look_at new r)
-busy_noted old file off len looked new (some, is, how) r within = ⊎_elim
-    (λ (h : AllBlocked old new × _). noted_some old new r (h.0 r within))
-    (λ (h : (last_chunk off len ≡ first_chunk off + 1) × ((range : ℕ) × AllBlocked (one_more_pin old range) new) × _). noted_some (one_more_pin old h.1.0) new r (h.1.1 r (subst (λ n. r < n) (sym (count_pinned old h.1.0)) within)))
-    how
+HasHolds-forgets : (t : Stand) (k : Holds) → HasHolds t k → HasHolds (forgets t) k
+HasHolds-forgets t k x = record {
+  asked = x.asked;
+  slots = x.slots;
+  behind = x.behind;
+  each = λ n g e. IsHold-forgets t g (x.each n g e);
+  leases = x.leases;
+  pins = x.pins;
+  all_leases = x.all_leases;
+  all_pins = x.all_pins;
+}
 
-pub busy_count : (old : MapView) (file off len : ℕ) (looked : List Look) (new : MapView) → IsBusy old file off len looked new → KeepsMap old new → IsSoundRanges new → length (letters_of looked) ≡ range_count old
-busy_count old file off len looked new b k sound =
-    let long : length new.ranges.looks ≡ range_count old = sound.looks ∙ k.count in
-    letters_long looked ∙ ap length b.1 ∙ all_noted 0 new.ranges.looks (λ r within. busy_noted old file off len looked new b r (subst (λ n. r < n) long within)) ∙ long
-
--- ---- a guest alone with its ranges
-
-none_pinned : (xs : List ℕ) (i : ℕ) → i < length xs → sum xs ≡ 0 → get_or xs i 0 ≡ 0
-none_pinned xs i within e = let most = pins-sum xs i within in omega (arith, most, e)
-
--- a range without own pins isn't blocked
-unblocked : (v : MapView) (own : ℕ) (word : RangeWord) → v.ranges.others ≡ false → own ≡ 0 → Blocks v own word → ⊥
-unblocked v own words.Free alone none b = b
-unblocked v own (words.Moving guest) alone none b = true≢false (sym b.1 ∙ alone)
-unblocked v own (words.Mapped file chunk mode pins) alone none b = let some = b.0 in let same = b.2 alone in omega arith
-
-pinned_elsewhere : (v : MapView) (range r : ℕ) → r < range_count v → sum v.hands.pins ≡ 0 → r ≢ range → pins_on (one_more_pin v range) r ≡ 0
-pinned_elsewhere v range r within e apart = get_or-set_other v.hands.pins range r (pins_on v range + 1) 0 apart ∙ none_pinned v.hands.pins r within e
-
-not_blocked : (v now : MapView) (r : ℕ) → v.ranges.others ≡ false → pins_on v r ≡ 0 → IsBlocked v now r → ⊥
-not_blocked v now r alone none b = unblocked v b.noted.own b.noted.word alone (b.own ∙ none) b.blocks
-
-pub never_busy : (old : MapView) (file off len : ℕ) (looked : List Look) (new : MapView) → IsAlone old → IsBusy old file off len looked new → ⊥
-never_busy old file off len looked new a (some, is, how) =
-    let two : 1 < range_count old = (let n = a.count in omega (arith, n, some)) in
-    ⊎_elim
-    (λ (h : AllBlocked old new × _). not_blocked old new 0 a.alone (none_pinned old.hands.pins 0 some a.unpinned) (h.0 0 some))
-    (λ (h : (last_chunk off len ≡ first_chunk off + 1) × ((range : ℕ) × AllBlocked (one_more_pin old range) new) × _).
-    let range = h.1.0 in let at = λ (r : ℕ) (within : r < range_count old). h.1.1 r (subst (λ n. r < n) (sym (count_pinned old range)) within) in
-    dite (ℕ_discrete 0 range)
-    (λ e. not_blocked (one_more_pin old range) new 1 a.alone (pinned_elsewhere old range 1 two a.unpinned (λ k. absurd (omega (arith, e, k)))) (at 1 two))
-    (λ apart. not_blocked (one_more_pin old range) new 0 a.alone (pinned_elsewhere old range 0 some a.unpinned apart) (at 0 some)))
-    how
+LeavesRest-forgets : (s t : Stand) → LeavesRest s t → LeavesRest s (forgets t)
+LeavesRest-forgets s t x = record {
+  wire = x.wire;
+  files = x.files;
+  map = record {
+    plain = x.map.plain;
+    over = x.map.over;
+    guest = x.map.guest;
+    may_take = x.map.may_take;
+    others = x.map.others;
+    tree = x.map.tree;
+    moves = x.map.moves;
+    pages = x.map.pages;
+    count = x.map.count;
+    files = x.map.files;
+    logs = x.map.logs;
+  };
+}
 
 -- ---- what is left
 
-StaysBoard-same : (s t u : Stand) → u.files ≡ t.files → StaysBoard s.files t.files → StaysBoard s.files u.files
-StaysBoard-same s t u e k = subst (StaysBoard s.files) (sym e) k
+pub LeavesRest-line : (s t u : Stand) (answer : Result Line Refusal) (told : Result Line Memory) → LeavesRest s t → LineOf t.map answer told u.map → u.wire ≡ t.wire → u.files ≡ t.files → LeavesRest s u
+LeavesRest-line s t u answer told k h wire files = after (λ (x : Stand). LeavesRest s x) t u k (LeavesRest-forgets s t k) (line_stand t u answer told h wire files)
 
--- the map after a line was told
-line_map : (v : MapView) (answer : Result Done Refusal) (told : Result Line Memory) (w : MapView) → LineOf v answer told w → (w ≡ v) ⊎ (w ≡ forgot v)
-line_map v (Ok d) (Ok l) w h = inl h.1
-line_map v (Ok d) (Err e) w h = absurd h
-line_map v (Err (refusals.Busy looked)) (Ok l) w h = inr h.1
-line_map v (Err (refusals.Busy looked)) (Err e) w h = inr h
-line_map v (Err refusals.Memory) (Ok l) w h = absurd h
-line_map v (Err refusals.Memory) (Err e) w h = inl h
-line_map v (Err (refusals.Errno n)) told w h = absurd h
-line_map v (Err (refusals.BadReply b)) told w h = absurd h
-line_map v (Err refusals.WireFault) told w h = absurd h
+pub IsHome-line : (t u : Stand) (refs : List FileRef) (answer : Result Line Refusal) (told : Result Line Memory) → LineOf t.map answer told u.map → u.wire ≡ t.wire → u.files ≡ t.files → IsHome t refs → IsHome u refs
+IsHome-line t u refs answer told h wire files home = after (λ (x : Stand). IsHome x refs) t u home (IsHome-forgets t refs home) (line_stand t u answer told h wire files)
 
-keeps_line : (v w : MapView) → (w ≡ v) ⊎ (w ≡ forgot v) → KeepsMap v w × (w.hands ≡ v.hands)
-keeps_line v w (inl e) = (subst (KeepsMap v) (sym e) (KeepsMap-same v), ap (λ (m : MapView). m.hands) e)
-keeps_line v w (inr e) = (KeepsMap-forgot v w e, hands-forgot v w e)
-
-pub LeavesAll-line : (s t u : Stand) (answer : Result Done Refusal) (told : Result Line Memory) → LeavesAll s t → LineOf t.map answer told u.map → u.wire ≡ t.wire → u.files ≡ t.files → LeavesAll s u
-LeavesAll-line s t u answer told k h wire files =
-    let m = keeps_line t.map u.map (line_map t.map answer told u.map h) in record {
-      wire = rw wire k.wire;
-      files = StaysBoard-same s t u files k.files;
-      map = KeepsMap-both s.map t.map u.map k.map m.0;
-      hands = m.1 ∙ k.hands;
-    }
-
-pub IsHome-line : (s t u : Stand) (refs : List FileRef) (answer : Result Done Refusal) (told : Result Line Memory) → LineOf t.map answer told u.map → u.wire ≡ t.wire → u.files ≡ t.files → IsHome t refs → IsHome u refs
-IsHome-line s t u refs answer told h wire files home =
-    let m = (keeps_line t.map u.map (line_map t.map answer told u.map h)).0 in
-    let moved : (w : MapView) → KeepsMap t.map w → IsHome (stand t.wire t.files w) refs = λ w k. record {
-      stands = record {
-        refs_of = home.stands.refs_of;
-        logs = k.files ∙ home.stands.logs;
-        may_take = k.may_take ∙ home.stands.may_take;
-        turn = home.stands.turn;
-        serving = λ honest. let v = home.stands.serving honest in record {
-          there = v.there;
-          pages = k.pages ∙ v.pages;
-          started = v.started;
-          ready = v.ready;
-          nodes = v.nodes;
-          handles = v.handles;
-        };
-      };
-      plain = home.plain;
-    } in
-    rw (wire, files) (moved u.map m)
+pub HasHolds-line : (t u : Stand) (k : Holds) (answer : Result Line Refusal) (told : Result Line Memory) → LineOf t.map answer told u.map → u.wire ≡ t.wire → u.files ≡ t.files → HasHolds t k → HasHolds u k
+HasHolds-line t u k answer told h wire files has = after (λ (x : Stand). HasHolds x k) t u has (HasHolds-forgets t k has) (line_stand t u answer told h wire files)
 
 -- no look is noted any more
-pub NoLooks-line : (s t u : Stand) (n : ℕ) (c : Call) (answer : Result Done Refusal) (told : Result Line Memory) → Comes s n c answer t → LineOf t.map answer told u.map → NoLooks u.map
-NoLooks-line s t u n c (Ok d) (Ok l) k h = subst NoLooks (sym h.1) k.0
-NoLooks-line s t u n c (Ok d) (Err e) k h = absurd h
-NoLooks-line s t u n c (Err (refusals.Busy looked)) (Ok l) k h = NoLooks-forgot t.map u.map h.1
-NoLooks-line s t u n c (Err (refusals.Busy looked)) (Err e) k h = NoLooks-forgot t.map u.map h
-NoLooks-line s t u n c (Err refusals.Memory) (Ok l) k h = absurd h
-NoLooks-line s t u n c (Err refusals.Memory) (Err e) k h = subst NoLooks (sym h) k
-NoLooks-line s t u n c (Err (refusals.Errno x)) told k h = absurd h
-NoLooks-line s t u n c (Err (refusals.BadReply x)) told k h = absurd h
-NoLooks-line s t u n c (Err refusals.WireFault) told k h = absurd h
+pub NoLooks-line : (s t u : Stand) (h k : Holds) (n : ℕ) (c : Call) (answer : Result Line Refusal) (told : Result Line Memory) → Comes s h n c answer t k → LineOf t.map answer told u.map → NoLooks u.map
+NoLooks-line s t u h k n c (Ok l) (Ok m) x y = subst NoLooks (sym y.1) x.0
+NoLooks-line s t u h k n c (Ok l) (Err e) x y = absurd y
+NoLooks-line s t u h k n c (Err (refusals.Busy looked)) (Ok l) x y = NoLooks-forgot t.map u.map y.1
+NoLooks-line s t u h k n c (Err (refusals.Busy looked)) (Err e) x y = NoLooks-forgot t.map u.map y
+NoLooks-line s t u h k n c (Err (refusals.Leased count)) (Ok l) x y = subst NoLooks (sym y.1) x.0
+NoLooks-line s t u h k n c (Err (refusals.Leased count)) (Err e) x y = absurd y
+NoLooks-line s t u h k n c (Err (refusals.NoHold hold)) (Ok l) x y = subst NoLooks (sym y.1) x.0
+NoLooks-line s t u h k n c (Err (refusals.NoHold hold)) (Err e) x y = absurd y
+NoLooks-line s t u h k n c (Err (refusals.Past end)) (Ok l) x y = subst NoLooks (sym y.1) x.0
+NoLooks-line s t u h k n c (Err (refusals.Past end)) (Err e) x y = absurd y
+NoLooks-line s t u h k n c (Err refusals.Memory) (Ok l) x y = absurd y
+NoLooks-line s t u h k n c (Err refusals.Memory) (Err e) x y = subst NoLooks (sym y) x
+NoLooks-line s t u h k n c (Err (refusals.Errno z)) told x y = absurd y
+NoLooks-line s t u h k n c (Err (refusals.BadReply z)) told x y = absurd y
+NoLooks-line s t u h k n c (Err refusals.WireFault) told x y = absurd y
 
-pub IsIdle-after : (s u : Stand) (refs : List FileRef) → LeavesAll s u → IsHome u refs → NoLooks u.map → IsIdle s refs → IsIdle u refs
-IsIdle-after s u refs k home looks i = record {
+pub IsIdle-after : (s u : Stand) (refs : List FileRef) (h k : Holds) → LeavesRest s u → IsHome u refs → HasHolds u k → NoLooks u.map → IsIdle s refs h → IsIdle u refs k
+IsIdle-after s u refs h k x home holds looks i = record {
   home = home;
-  honest = k.wire.honest ∙ i.honest;
-  tree = ap (λ h. h.tree) k.hands ∙ i.tree;
-  moves = ap (λ h. h.moves) k.hands ∙ i.moves;
-  few = rw (k.hands) i.few;
+  honest = x.wire.honest ∙ i.honest;
+  tree = x.map.tree ∙ i.tree;
+  moves = x.map.moves ∙ i.moves;
   looks = looks;
-  may_lease = k.files.may_lease ∙ i.may_lease;
-  unbarred = ap (λ h. h.bar) k.files.hands ∙ i.unbarred;
-  leases = rw (k.files.hands) i.leases;
-  sizes = λ shared. subst IsSome (sym k.files.over) (i.sizes (sym k.files.plain ∙ shared));
+  may_lease = x.files.may_lease ∙ i.may_lease;
+  unbarred = x.files.bar ∙ i.unbarred;
+  holds = holds;
+  sizes = λ shared. subst IsSome (sym x.files.over) (i.sizes (sym x.files.plain ∙ shared));
 }
 
 -- ---- what the line tells
 
 -- the answers of calls are those of an honest wire
-pub honest_answer : (s t : Stand) (n : ℕ) (c : Call) (answer : Result Done Refusal) → Comes s n c answer t → IsHonestAnswer answer
-honest_answer s t n c (Ok d) k = tt
-honest_answer s t n c (Err (refusals.Busy looked)) k = tt
-honest_answer s t n c (Err refusals.Memory) k = tt
-honest_answer s t n c (Err (refusals.Errno x)) k = k
-honest_answer s t n c (Err (refusals.BadReply x)) k = k
-honest_answer s t n c (Err refusals.WireFault) k = k
+pub honest_answer : (s t : Stand) (h k : Holds) (n : ℕ) (c : Call) (answer : Result Line Refusal) → Comes s h n c answer t k → IsHonestAnswer answer
+unfolding IsHonestAnswer
+honest_answer s t h k n c (Ok l) x = tt
+honest_answer s t h k n c (Err (refusals.Busy looked)) x = tt
+honest_answer s t h k n c (Err (refusals.Leased count)) x = tt
+honest_answer s t h k n c (Err (refusals.NoHold hold)) x = tt
+honest_answer s t h k n c (Err (refusals.Past end)) x = tt
+honest_answer s t h k n c (Err refusals.Memory) x = tt
+honest_answer s t h k n c (Err (refusals.Errno z)) x = x
+honest_answer s t h k n c (Err (refusals.BadReply z)) x = x
+honest_answer s t h k n c (Err refusals.WireFault) x = x
 
-pub Tells-line : (s t u : Stand) (n : ℕ) (c : Call) (answer : Result Done Refusal) (told : Result Line Memory) → LeavesAll s t → IsSoundRanges t.map → Comes s n c answer t → LineOf t.map answer told u.map → u.files ≡ t.files → Tells s n c told u
-Tells-line s t u n c (Ok d) (Ok l) keeps sound (looks, made) (is, same) files = inl (
-  d,
-  is,
-  record {
-    to = made.to;
-    way = made.way;
-    asks = made.asks;
-    directs = rw files made.directs;
-    came = rw (files, same) made.came;
-  },
-)
-Tells-line s t u n c (Ok d) (Err e) keeps sound k h files = tt
-Tells-line s t u n c (Err (refusals.Busy looked)) (Ok l) keeps sound k (is, same) files = inr (record {
-  to = k.to;
-  asks = k.asks;
-  takes = k.takes;
-  undone = rw files k.undone;
-  letters = letters_of looked;
-  line = is;
-  some = k.busy.0;
-  each = busy_count s.map k.to.file k.off k.len looked t.map k.busy keeps.map sound;
-  others = λ alone. never_busy s.map k.to.file k.off k.len looked t.map alone k.busy;
-})
-Tells-line s t u n c (Err (refusals.Busy looked)) (Err e) keeps sound k h files = tt
-Tells-line s t u n c (Err refusals.Memory) (Ok l) keeps sound k h files = absurd h
-Tells-line s t u n c (Err refusals.Memory) (Err e) keeps sound k h files = tt
-Tells-line s t u n c (Err (refusals.Errno x)) told keeps sound k h files = absurd k
-Tells-line s t u n c (Err (refusals.BadReply x)) told keeps sound k h files = absurd k
-Tells-line s t u n c (Err refusals.WireFault) told keeps sound k h files = absurd k
+-- the same is told of the same
+still_tells : (s t u : Stand) (h k j : Holds) (n : ℕ) (c : Call) (l m : Line) → u ≡ t → j ≡ k → m ≡ l → Tells s h n c l t k → Tells s h n c m u j
+still_tells s t u h k j n c l m stands holds line x = subst (λ (z : Line × Stand × Holds). Tells s h n c z.0 z.1 z.2) (λ i. (sym line i, sym stands i, sym holds i)) x
+
+still_stuck : (s t u : Stand) (h k j : Holds) (c : Call) (letters : List ℕ) → u.files ≡ t.files → j ≡ k → IsStuck s h c letters t k → IsStuck s h c letters u j
+still_stuck s t u h k j c letters files holds x = record { takes = x.takes; some = x.some; each = x.each; others = rw files x.others; holds = holds ∙ x.holds; full = x.full }
+
+pub Tells-line : (s t u : Stand) (h k j : Holds) (n : ℕ) (c : Call) (answer : Result Line Refusal) (told : Result Line Memory) → IsSoundRanges t.map → Comes s h n c answer t k → LineOf t.map answer told u.map → u.wire ≡ t.wire → u.files ≡ t.files → j ≡ k → IfOk told (λ l. Tells s h n c l u j)
+unfolding Tells
+Tells-line s t u h k j n c (Ok l) (Ok m) sound x y wire files holds = still_tells s t u h k j n c l m (moved t u t.map wire files y.1) holds y.0 x.1
+Tells-line s t u h k j n c (Ok l) (Err e) sound x y wire files holds = tt
+Tells-line s t u h k j n c (Err (refusals.Busy looked)) (Ok l) sound x y wire files holds = subst (λ (z : Line). Tells s h n c z u j) (sym y.0) (still_stuck s t u h k j c (letters_of looked) files holds (x.1 sound))
+Tells-line s t u h k j n c (Err (refusals.Busy looked)) (Err e) sound x y wire files holds = tt
+Tells-line s t u h k j n c (Err (refusals.Leased count)) (Ok l) sound x y wire files holds = still_tells s t u h k j n c (lines.Leased count) l (moved t u t.map wire files y.1) holds y.0 x.1
+Tells-line s t u h k j n c (Err (refusals.Leased count)) (Err e) sound x y wire files holds = tt
+Tells-line s t u h k j n c (Err (refusals.NoHold hold)) (Ok l) sound x y wire files holds = still_tells s t u h k j n c lines.NoHold l (moved t u t.map wire files y.1) holds y.0 x.1
+Tells-line s t u h k j n c (Err (refusals.NoHold hold)) (Err e) sound x y wire files holds = tt
+Tells-line s t u h k j n c (Err (refusals.Past end)) (Ok l) sound x y wire files holds = still_tells s t u h k j n c (lines.Past end) l (moved t u t.map wire files y.1) holds y.0 x.1
+Tells-line s t u h k j n c (Err (refusals.Past end)) (Err e) sound x y wire files holds = tt
+Tells-line s t u h k j n c (Err refusals.Memory) (Ok l) sound x y wire files holds = absurd y
+Tells-line s t u h k j n c (Err refusals.Memory) (Err e) sound x y wire files holds = tt
+Tells-line s t u h k j n c (Err (refusals.Errno z)) told sound x y wire files holds = absurd x
+Tells-line s t u h k j n c (Err (refusals.BadReply z)) told sound x y wire files holds = absurd x
+Tells-line s t u h k j n c (Err refusals.WireFault) told sound x y wire files holds = absurd x
 
 -- what is told can be printed
-printable_line : (s : Stand) (n : ℕ) (c : Call) (l : Line) (u : Stand) → Tells s n c (Ok l) u → HasFields l → IsPrintableLine l
-unfolding HasFields IsPrintableLine
-printable_line s n c l u (inl (d, is, made)) fields = rw is (rw is at fields)
-printable_line s n c l u (inr g) fields = rw g.line (some_letters g.letters (let e = g.each in let k = g.some in omega (arith, e, k)) (rw g.line at fields))
-  where
-    some_letters : (letters : List ℕ) → 0 < length letters → list_all is_letter letters ≡ true → is_letters letters ≡ true
-    some_letters [] some all = absurd (omega (arith, some))
-    some_letters (x ∷ xs) some all = rw (ne_eqb (length (x ∷ xs)) 0 (λ none. absurd (omega (arith, none)))) all
+some_letters : (letters : List ℕ) → 0 < length letters → list_all is_letter letters ≡ true → is_letters letters ≡ true
+some_letters [] some all = absurd (omega (arith, some))
+some_letters (x ∷ xs) some all = rw (ne_eqb (length (x ∷ xs)) 0 (λ none. absurd (omega (arith, none)))) all
 
-pub printable_told : (s : Stand) (n : ℕ) (c : Call) (told : Result Line Memory) (u : Stand) → Tells s n c told u → IfOk told HasFields → IfOk told IsPrintableLine
-printable_told s n c (Ok l) u k fields = printable_line s n c l u k fields
-printable_told s n c (Err e) u k fields = tt
+printable_line : (s u : Stand) (h j : Holds) (n : ℕ) (c : Call) (l : Line) → Tells s h n c l u j → HasFields l → IsPrintableLine l
+unfolding Tells HasFields IsPrintableLine
+printable_line s u h j n c (lines.Done place answer) x fields = fields
+printable_line s u h j n c (lines.Held end through) x fields = fields
+printable_line s u h j n c lines.Released x fields = fields
+printable_line s u h j n c (lines.Busy letters) x fields = some_letters letters (let e = x.each in let some = x.some in omega (arith, e, some)) fields
+printable_line s u h j n c (lines.Leased count) x fields = fields
+printable_line s u h j n c lines.NoHold x fields = fields
+printable_line s u h j n c (lines.Past end) x fields = fields
+
+pub printable_told : (s u : Stand) (h j : Holds) (n : ℕ) (c : Call) (told : Result Line Memory) → IfOk told (λ l. Tells s h n c l u j) → IfOk told HasFields → IfOk told IsPrintableLine
+printable_told s u h j n c (Ok l) x fields = printable_line s u h j n c l x fields
+printable_told s u h j n c (Err e) x fields = tt

@@ -1,5 +1,5 @@
 -- How an operation came to its file, in longer histories and logs.
-use Rattle.std.proofs.Common.{◌≡◌, ◌∙◌, ap, sym, subst, ℕ, ◌+◌, ◌≤◌, Bool, true, false, List, [], ◌∷◌, ◌++◌, length, take, drop, get_or, arith, length-append}
+use Rattle.std.proofs.Common.{◌≡◌, ◌∙◌, ap, sym, subst, ℕ, ◌+◌, ◌<◌, ◌≤◌, Bool, true, false, List, [], ◌∷◌, ◌++◌, length, take, drop, get_or, Option, Some, None, arith, length-append}
 use Rattle.std.proofs.lemmas.Bool.{and_parts, and_from}
 use Rattle.std.proofs.lemmas.Option.{get_or_from_slice_get}
 use Rattle.plain_file.specs.declared.operations.Entry.{Entry}
@@ -14,9 +14,12 @@ use Rattle.plain_file.specs.History.{after_all, bytes, size}
 use Rattle.page_map.specs.declared.ranges.LogEntry.{LogEntry}
 use Rattle.range_tree.specs.Logs.{is_live, lasts}
 use Rattle.range_tree.proofs.Live.{live_within, live_lasts}
+use Rattle.dax_script.specs.declared.scripts.Call.{Call}
+use Rattle.transcript_text.specs.declared.transcripts.Numbered.{Numbered}
 use Rattle.dax_audit.specs.Rules.{chunks, covers, pairs_of}
-use Rattle.guest_run.specs.Runs.{FitsWindow, FitsWay}
-use Rattle.guest_run.proofs.Places.{found, front, take_front}
+use Rattle.guest_run.specs.Runs.{Asked, FitsWindow, FitsWay, CoversOp, IsPlaced, IsSeenBefore, Came}
+use Rattle.guest_run.proofs.Places.{found, front, in_front, take_front}
+use Rattle.guest_run.proofs.Granting.{had_front}
 
 pub bytes_front : (first : First) (h rest : List Entry) (p : ℕ) → p ≤ length h → bytes first (h ++ rest) p ≡ bytes first h p
 unfolding bytes
@@ -65,4 +68,42 @@ pub way_on : (ranges : ℕ) (first : First) (h h' : List Entry) (log log' : List
 way_on ranges first h h' log log' seen seen' place op way longer later up low fits = record {
   without = fits.without;
   windowed = λ some. subst (λ (z : List Entry × List LogEntry). FitsWindow first z.0 z.1 seen' place op way) (λ i. (sym longer.1 i, sym later.1 i)) (window_on first h longer.0 log later.0 seen seen' place op way up low (fits.windowed some));
+}
+
+-- the pairs that cover an operation still do in a longer log
+covers_op_on : (log more : List LogEntry) (op : Op) (ks : List Through) → CoversOp log op ks → CoversOp (log ++ more) op ks
+unfolding CoversOp
+covers_op_on log more (ops.Read off len) ks c = covers_on false log more (chunks off len) ks c
+covers_op_on log more (ops.Write off xs) ks c = covers_on true log more (chunks off (length xs)) ks c
+covers_op_on log more (ops.Truncate to) ks c = c
+covers_op_on log more ops.Size ks c = c
+
+-- ---- after more lines
+
+-- a line that has a place keeps it
+pub placed_on : (cs : List Call) (ls more : List Numbered) (f n p : ℕ) → IsPlaced cs ls f n p → IsPlaced cs (ls ++ more) f n p
+placed_on cs ls more f n p a = record { call = a.call; op = a.op; made = a.made; asks = a.asks; line = a.line; told = front ls more n a.line a.told; place = a.place }
+
+-- and had it before
+pub placed_front : (cs : List Call) (ls more : List Numbered) (f n p : ℕ) → n < length ls → IsPlaced cs (ls ++ more) f n p → IsPlaced cs ls f n p
+placed_front cs ls more f n p low a = record { call = a.call; op = a.op; made = a.made; asks = a.asks; line = a.line; told = in_front ls more n a.line a.told low; place = a.place }
+
+-- what was seen before a call stays so
+pub seen_front : (cs : List Call) (ls more : List Numbered) (f n k : ℕ) → n ≤ length ls → IsSeenBefore cs ls f n k → IsSeenBefore cs (ls ++ more) f n k
+seen_front cs ls more f n k low seen = λ m p lt a. seen m p lt (placed_front cs ls more f m p (omega (arith, lt, low)) a)
+
+-- how an operation came to its place stays right
+pub came_on : (ranges : ℕ) (first : First) (h h' : List Entry) (log log' : List LogEntry) (cs : List Call) (ls more : List Numbered) (n : ℕ) (hold : Option ℕ) (place : ℕ) (to : Asked) (way : Way)
+    → ((rest : List Entry) × (h' ≡ h ++ rest)) → ((rest : List LogEntry) × (log' ≡ log ++ rest)) → n ≤ length ls → place ≤ length h
+    → Came ranges first h log cs ls n hold place to way → Came ranges first h' log' cs (ls ++ more) n hold place to way
+unfolding Came
+came_on ranges first h h' log log' cs ls more n None place to way longer later low within c =
+    way_on ranges first h h' log log' (IsSeenBefore cs ls to.file n) (IsSeenBefore cs (ls ++ more) to.file n) place to.op way longer later (λ k. seen_front cs ls more to.file n k low) within c
+came_on ranges first h h' log log' cs ls more n (Some hold) place to way longer later low within c = record {
+  some = c.some;
+  grant = c.grant;
+  had = had_front cs ls more n hold c.grant low c.had;
+  goes = c.goes;
+  covered = subst (λ (z : List LogEntry). CoversOp z to.op (c.grant.through ∷ [])) (sym later.1) (covers_op_on log later.0 to.op (c.grant.through ∷ []) c.covered);
+  within = c.within;
 }

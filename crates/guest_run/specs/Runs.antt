@@ -1,15 +1,19 @@
 -- What one guest did: its calls and its lines, in the histories and the placement logs that it has seen. Both are given by the file's number.
-use Rattle.std.specs.Prelude.{◌≡◌, ◌⊎◌, ℕ, ◌+◌, ◌<◌, ◌≤◌, true, false, List, [], ◌∷◌, ◌++◌, length, map, replicate, slice_get, Option, Some, None}
+use Rattle.std.specs.Prelude.{◌≡◌, ◌⊎◌, ℕ, ◌+◌, ◌*◌, ◌<◌, ◌≤◌, min, true, false, List, [], ◌∷◌, ◌++◌, length, map, replicate, slice_get, Option, Some, None}
 use Rattle.plain_file.specs.declared.operations.Entry.{Entry}
 use Rattle.plain_file.specs.declared.operations.First.{First}
 use Rattle.plain_file.specs.declared.operations.Op.{Op}
 use Rattle.plain_file.specs.declared.operations.Op.TheVariants as ops
+use Rattle.plain_file.specs.declared.operations.Through.{Through}
 use Rattle.plain_file.specs.declared.operations.Way.{Way}
 use Rattle.plain_file.specs.declared.operations.Way.TheVariants as ways
 use Rattle.plain_file.specs.File.{answer}
 use Rattle.plain_file.specs.History.{bytes, size}
 use Rattle.page_map.specs.declared.ranges.LogEntry.{LogEntry}
-use Rattle.range_tree.specs.Logs.{unsound_at}
+use Rattle.page_map.specs.Logs.{is_writable}
+use Rattle.range_tree.specs.Logs.{is_live, unsound_at}
+use Rattle.dax_script.specs.Asks.{chunk_size, held_of, held_by, hold_in, place_of_hold}
+use Rattle.dax_script.specs.declared.asks.Held.{Held}
 use Rattle.dax_script.specs.declared.scripts.Call.{Call}
 use Rattle.dax_script.specs.declared.scripts.Call.TheVariants as calls
 use Rattle.dax_script.specs.declared.scripts.FileLine.{FileLine}
@@ -20,8 +24,10 @@ use Rattle.transcript_text.specs.declared.transcripts.GuestPart.{GuestPart}
 use Rattle.transcript_text.specs.declared.transcripts.Line.TheVariants as lines
 use Rattle.transcript_text.specs.declared.transcripts.Numbered.{Numbered}
 use Rattle.transcript_text.specs.declared.transcripts.Transcript.{Transcript}
-use Rattle.dax_audit.specs.Guests.{place_of}
-use Rattle.dax_audit.specs.Rules.{chunks, covers, pairs_of, is_taking}
+use Rattle.dax_audit.specs.declared.verdicts.Grant.{Grant}
+use Rattle.dax_audit.specs.Guests.{place_of, had_grant}
+use Rattle.dax_audit.specs.Tables.{end_of}
+use Rattle.dax_audit.specs.Rules.{chunks, covers, pairs_of, is_taking, is_truncating}
 
 -- ---- what a call asks
 
@@ -33,17 +39,22 @@ pub record Asked : Type 0 where
 abbrev pub on_file : ℕ → Op → Option Asked
 on_file file op = Some (record { file = file; op = op })
 
--- What a call asks of the file that it names. A hold is no operation, and what goes through one names no file.
-unfoldable pub asked : Call → Option Asked
-asked (calls.Read file off len) = on_file file (ops.Read off len)
-asked (calls.Write file off bytes) = on_file file (ops.Write off bytes)
-asked (calls.Fill file off len byte) = on_file file (ops.Write off (replicate len byte))
-asked (calls.Size file) = on_file file ops.Size
-asked (calls.Truncate file size) = on_file file (ops.Truncate size)
-asked (calls.Hold file chunk mode) = None
-asked (calls.Load hold off len) = None
-asked (calls.Store hold off bytes) = None
-asked (calls.Release hold) = None
+-- what is asked through a hold, by where its chunk begins in its file; nothing where there is no such hold
+unfoldable pub through_hold : Option Held → (ℕ → Op) → Option Asked
+through_hold None op = None
+through_hold (Some held) op = on_file held.file (op (held.chunk * chunk_size))
+
+-- What a call of a guest asks of its file. A hold and a release are no operation.
+unfoldable pub asked : List Call → Call → Option Asked
+asked cs (calls.Read file off len) = on_file file (ops.Read off len)
+asked cs (calls.Write file off bytes) = on_file file (ops.Write off bytes)
+asked cs (calls.Fill file off len byte) = on_file file (ops.Write off (replicate len byte))
+asked cs (calls.Size file) = on_file file ops.Size
+asked cs (calls.Truncate file size) = on_file file (ops.Truncate size)
+asked cs (calls.Hold file chunk mode) = None
+asked cs (calls.Load hold off len) = through_hold (held_by cs hold) (λ start. ops.Read (start + off) len)
+asked cs (calls.Store hold off bytes) = through_hold (held_by cs hold) (λ start. ops.Write (start + off) bytes)
+asked cs (calls.Release hold) = None
 
 -- the entry of the guest's n-th call
 abbrev pub the_entry : ℕ → ℕ → Op → Way → Entry
@@ -65,14 +76,40 @@ pub record FitsWay (ranges : ℕ) (first : First) (h : List Entry) (log : List L
   pub without : ranges ≡ 0 → way ≡ ways.Req
   pub windowed : 0 < ranges → FitsWindow first h log seen place op way
 
+-- the pairs cover what a read or a write meets, in order
+unfoldable pub CoversOp : List LogEntry → Op → List Through → Type 0
+CoversOp log (ops.Read off len) ks = covers false log (chunks off len) ks ≡ true
+CoversOp log (ops.Write off bytes) ks = covers true log (chunks off (length bytes)) ks ≡ true
+CoversOp log (ops.Truncate size) ks = ⊥
+CoversOp log ops.Size ks = ⊥
+
 -- ---- one guest's run
+
+-- the guest has this hold before its n-th call: it was granted so, and not given up
+abbrev pub Had : List Call → List Numbered → ℕ → ℕ → Grant → Type 0
+Had cs ls n hold grant = had_grant cs ls hold n ≡ Some grant
+
+-- an earlier call than the n-th asked for the hold
+pub record IsAskedBefore (cs : List Call) (n hold : ℕ) : Type 0 where
+  pub at : ℕ
+  pub place : place_of_hold cs hold ≡ Some at
+  pub before : at < n
+
+-- the operation goes through the pair of a hold that the guest has, and ends within it
+pub record IsThroughHold (ranges : ℕ) (log : List LogEntry) (cs : List Call) (ls : List Numbered) (n hold : ℕ) (op : Op) (way : Way) : Type 0 where
+  pub some : 0 < ranges
+  pub grant : Grant
+  pub had : Had cs ls n hold grant
+  pub goes : way ≡ ways.Via grant.through None
+  pub covered : CoversOp log op (grant.through ∷ [])
+  pub within : end_of op ≤ grant.end
 
 -- the n-th call is on this file, and its line has this place
 pub record IsPlaced (cs : List Call) (ls : List Numbered) (f n p : ℕ) : Type 0 where
   pub call : Call
   pub op : Op
   pub made : slice_get cs n ≡ Some call
-  pub asks : asked call ≡ on_file f op
+  pub asks : asked cs call ≡ on_file f op
   pub line : Numbered
   pub told : slice_get ls n ≡ Some line
   pub place : place_of line.line ≡ Some p
@@ -81,15 +118,46 @@ pub record IsPlaced (cs : List Call) (ls : List Numbered) (f n p : ℕ) : Type 0
 abbrev pub IsSeenBefore : List Call → List Numbered → ℕ → ℕ → ℕ → Type 0
 IsSeenBefore cs ls f n k = (m p : ℕ) → m < n → IsPlaced cs ls f m p → p < k
 
+-- each later one has a place that isn't
+abbrev pub IsSeenUntil : List Call → List Numbered → ℕ → ℕ → ℕ → Type 0
+IsSeenUntil cs ls f n k = (m p : ℕ) → n < m → IsPlaced cs ls f m p → k ≤ p
+
+-- how the operation of the n-th call came to its place in its file: through the hold that it uses, or as the window and its size want it
+unfoldable pub Came : ℕ → First → List Entry → List LogEntry → List Call → List Numbered → ℕ → Option ℕ → ℕ → Asked → Way → Type 0
+Came ranges first h log cs ls n None place to way = FitsWay ranges first h log (IsSeenBefore cs ls to.file n) place to.op way
+Came ranges first h log cs ls n (Some hold) place to way = IsThroughHold ranges log cs ls n hold to.op way
+
 -- The line of the guest's n-th call says that it is done: where it stands in its file's history, and what the plain file answers there. Its way fits.
 pub record IsDone (guest ranges : ℕ) (first : ℕ → First) (h : ℕ → List Entry) (logs : ℕ → List LogEntry) (cs : List Call) (ls : List Numbered) (n : ℕ) (c : Call) (l : Numbered) : Type 0 where
   pub to : Asked
   pub place : ℕ
   pub way : Way
-  pub asks : asked c ≡ Some to
+  pub asks : asked cs c ≡ Some to
   pub line : l ≡ record { call = n; line = lines.Done place (answer (bytes (first to.file) (h to.file) place) to.op) }
   pub entry : slice_get (h to.file) place ≡ Some (the_entry guest n to.op way)
-  pub came : FitsWay ranges (first to.file) (h to.file) (logs to.file) (IsSeenBefore cs ls to.file n) place to.op way
+  pub came : Came ranges (first to.file) (h to.file) (logs to.file) cs ls n (hold_in c) place to way
+
+-- It says that a hold is granted, through a live placement of its chunk. Its end is the lesser of the chunk's end and a size that was the file's at a length that the guest hadn't passed before, and not passed since.
+pub record IsGranted (first : ℕ → First) (h : ℕ → List Entry) (logs : ℕ → List LogEntry) (cs : List Call) (ls : List Numbered) (n : ℕ) (c : Call) (l : Numbered) : Type 0 where
+  pub held : Held
+  pub through : Through
+  pub end : ℕ
+  pub asks : held_of c ≡ Some held
+  pub line : l ≡ record { call = n; line = lines.Held end through }
+  pub live : is_live (is_writable held.mode) (logs held.file) held.chunk through.entry through.upto ≡ true
+  pub seen : ℕ
+  pub since : IsSeenBefore cs ls held.file n seen
+  pub until : IsSeenUntil cs ls held.file n seen
+  pub known : seen ≤ length (h held.file)
+  pub lesser : end ≡ min ((held.chunk + 1) * chunk_size) (size (first held.file) (h held.file) seen)
+
+-- it says that a hold that the guest had is given back
+pub record IsGivenBack (cs : List Call) (ls : List Numbered) (n : ℕ) (c : Call) (l : Numbered) : Type 0 where
+  pub hold : ℕ
+  pub grant : Grant
+  pub gives : c ≡ calls.Release hold
+  pub line : l ≡ record { call = n; line = lines.Released }
+  pub had : Had cs ls n hold grant
 
 -- it says that no range could be taken, with a letter for each
 pub record IsBlocked (ranges n : ℕ) (c : Call) (l : Numbered) : Type 0 where
@@ -99,23 +167,51 @@ pub record IsBlocked (ranges n : ℕ) (c : Call) (l : Numbered) : Type 0 where
   pub some : 0 < ranges
   pub each : length letters ≡ ranges
 
+-- it says that the file is leased, and how often
+pub record IsLeased (n : ℕ) (c : Call) (l : Numbered) : Type 0 where
+  pub count : ℕ
+  pub truncates : is_truncating c ≡ true
+  pub line : l ≡ record { call = n; line = lines.Leased count }
+  pub some : 0 < count
+
+-- it says that the guest hasn't the hold that the call uses
+pub record IsWithoutHold (cs : List Call) (ls : List Numbered) (n : ℕ) (c : Call) (l : Numbered) : Type 0 where
+  pub hold : ℕ
+  pub uses : hold_in c ≡ Some hold
+  pub line : l ≡ record { call = n; line = lines.NoHold }
+  pub asked : IsAskedBefore cs n hold
+  pub none : had_grant cs ls hold n ≡ None
+
+-- it says that the access ends above the end of the hold that it uses
+pub record IsPast (cs : List Call) (ls : List Numbered) (n : ℕ) (c : Call) (l : Numbered) : Type 0 where
+  pub hold : ℕ
+  pub grant : Grant
+  pub to : Asked
+  pub uses : hold_in c ≡ Some hold
+  pub asks : asked cs c ≡ Some to
+  pub line : l ≡ record { call = n; line = lines.Past grant.end }
+  pub had : Had cs ls n hold grant
+  pub past : grant.end < end_of to.op
+
 -- it says one of these
+abbrev pub IsNotDone : ℕ → List Call → List Numbered → ℕ → Call → Numbered → Type 0
+IsNotDone ranges cs ls n c l = IsBlocked ranges n c l ⊎ (IsLeased n c l ⊎ (IsWithoutHold cs ls n c l ⊎ IsPast cs ls n c l))
+
 abbrev pub IsTold : ℕ → ℕ → (ℕ → First) → (ℕ → List Entry) → (ℕ → List LogEntry) → List Call → List Numbered → ℕ → Call → Numbered → Type 0
-IsTold guest ranges first h logs cs ls n c l = IsDone guest ranges first h logs cs ls n c l ⊎ IsBlocked ranges n c l
+IsTold guest ranges first h logs cs ls n c l = IsDone guest ranges first h logs cs ls n c l ⊎ (IsGranted first h logs cs ls n c l ⊎ (IsGivenBack cs ls n c l ⊎ IsNotDone ranges cs ls n c l))
 
 -- an entry of the guest is that of a call on its file, whose line has its place
 pub record IsOf (guest : ℕ) (cs : List Call) (ls : List Numbered) (f p : ℕ) (e : Entry) : Type 0 where
   pub call : Call
   pub made : slice_get cs e.call ≡ Some call
-  pub asks : asked call ≡ on_file f e.op
+  pub asks : asked cs call ≡ on_file f e.op
   pub by : e.guest ≡ guest
   pub line : Numbered
   pub told : slice_get ls e.call ≡ Some line
   pub place : place_of line.line ≡ Some p
 
--- one line a call; no entries of the guest but theirs, in each file from this place on; places rise in each file
+-- the lines of the guest's first calls; no entries of the guest but theirs, in each file from this place on; places rise in each file
 pub record IsRunFrom (guest ranges : ℕ) (first : ℕ → First) (from : ℕ → ℕ) (h : ℕ → List Entry) (logs : ℕ → List LogEntry) (cs : List Call) (ls : List Numbered) : Type 0 where
-  pub count : length ls ≡ length cs
   pub told : (n : ℕ) (c : Call) (l : Numbered) → slice_get cs n ≡ Some c → slice_get ls n ≡ Some l → IsTold guest ranges first h logs cs ls n c l
   pub only : (f p : ℕ) (e : Entry) → from f ≤ p → slice_get (h f) p ≡ Some e → e.guest ≡ guest → IsOf guest cs ls f p e
   pub rising : (f n m p q : ℕ) → n < m → IsPlaced cs ls f n p → IsPlaced cs ls f m q → p < q
@@ -149,9 +245,10 @@ abbrev pub parts_from : (ℕ → List Entry) → (ℕ → List LogEntry) → ℕ
 parts_from h logs n [] = []
 parts_from h logs n (f ∷ fs) = part_of h logs n f ∷ parts_from h logs (n + 1) fs
 
--- the part of the guest is that of a run of its calls
+-- the part of the guest is that of a run of all its calls
 pub record IsPart (ranges : ℕ) (first : ℕ → First) (h : ℕ → List Entry) (logs : ℕ → List LogEntry) (guest : ℕ) (cs : List Call) (part : GuestPart) : Type 0 where
   pub number : part.guest ≡ guest
+  pub count : length part.lines ≡ length cs
   pub run : IsRun guest ranges first h logs cs part.lines
 
 -- a transcript of runs of all guests of a script, in histories with no entries but theirs, and in sound logs
@@ -161,6 +258,7 @@ pub record IsPlayed (first : ℕ → First) (h : ℕ → List Entry) (logs : ℕ
   pub files : t.files ≡ parts_from h logs 0 s.files
   pub count : length t.guests ≡ length s.guests
   pub guests : (g : ℕ) (cs : List Call) (part : GuestPart) → slice_get s.guests g ≡ Some cs → slice_get t.guests g ≡ Some part → IsPart s.ranges first h logs g cs part
-  pub in_files : (g n : ℕ) (cs : List Call) (c : Call) (a : Asked) → slice_get s.guests g ≡ Some cs → slice_get cs n ≡ Some c → asked c ≡ Some a → a.file < length s.files
+  pub in_files : (g n : ℕ) (cs : List Call) (c : Call) (a : Asked) → slice_get s.guests g ≡ Some cs → slice_get cs n ≡ Some c → asked cs c ≡ Some a → a.file < length s.files
+  pub held_files : (g n : ℕ) (cs : List Call) (c : Call) (held : Held) → slice_get s.guests g ≡ Some cs → slice_get cs n ≡ Some c → held_of c ≡ Some held → held.file < length s.files
   pub known : (f p : ℕ) (e : Entry) → slice_get (h f) p ≡ Some e → e.guest < length s.guests
   pub sound : (f : ℕ) → f < length s.files → unsound_at s.ranges (logs f) ≡ None

@@ -1,65 +1,80 @@
 -- The calls that a worker makes, what they rest on, and what comes of each.
-use Rattle.std.specs.Prelude.{◌≡◌, ◌≢◌, ◌⊎◌, ℕ, ◌+◌, ◌<◌, ◌≤◌, Bool, true, false, sum, List, length, slice_get, Option, Some, None, Result, Ok, Err}
+use Rattle.std.specs.Prelude.{◌≡◌, ◌≢◌, ℕ, zero, suc, ◌+◌, ◌<◌, ◌≤◌, ◌==◌, ◌&&◌, Bool, true, false, List, length, replicate, slice_get, take, Option, Some, None, IfSome, is_some, Result, Ok, Err, if◌then◌else◌}
 use Rattle.plain_file.specs.declared.operations.Entry.{Entry}
 use Rattle.plain_file.specs.declared.operations.First.{First}
 use Rattle.plain_file.specs.declared.operations.Op.{Op}
 use Rattle.plain_file.specs.declared.operations.Op.TheVariants as ops
 use Rattle.plain_file.specs.declared.operations.Way.{Way}
 use Rattle.plain_file.specs.declared.operations.Way.TheVariants as ways
-use Rattle.plain_file.specs.declared.refusals.Memory.{Memory}
 use Rattle.plain_file.specs.File.{max_file}
 use Rattle.plain_file.specs.Limits.{max_transfer}
 use Rattle.plain_file.specs.Board.{FileView, BoardView, file_at}
+use Rattle.plain_file.specs.Turns.{leases_on}
 use Rattle.page_map.specs.declared.ranges.LogEntry.{LogEntry}
-use Rattle.page_map.specs.declared.ranges.Look.{Look}
-use Rattle.page_map.specs.Board.{MapView, log_at}
-use Rattle.range_tree.specs.Ranges.{range_count, max_pins}
+use Rattle.page_map.specs.declared.pages.Mode.{Mode}
+use Rattle.page_map.specs.declared.pages.Mode.TheVariants as modes
+use Rattle.page_map.specs.Window.{range_size, max_chunks}
+use Rattle.page_map.specs.Board.{log_at}
+use Rattle.range_tree.specs.Ranges.{range_count, IsSoundRanges}
+use Rattle.dax_script.specs.Asks.{held_by, hold_in, hold_places}
+use Rattle.dax_script.specs.declared.asks.Held.{Held as Wanted}
 use Rattle.dax_script.specs.declared.scripts.Call.{Call}
 use Rattle.dax_script.specs.declared.scripts.Call.TheVariants as calls
 use Rattle.transcript_text.specs.declared.transcripts.Line.{Line}
 use Rattle.transcript_text.specs.declared.transcripts.Line.TheVariants as lines
 use Rattle.transcript_text.specs.declared.transcripts.Numbered.{Numbered}
-use Rattle.dax_audit.specs.Rules.{is_taking}
+use Rattle.dax_audit.specs.declared.verdicts.Grant.{Grant}
+use Rattle.dax_audit.specs.Guests.{had_grant}
+use Rattle.dax_audit.specs.Tables.{end_of}
+use Rattle.dax_audit.specs.Rules.{is_taking, is_truncating}
 use Rattle.guest_wire.specs.declared.driver.FileRef.{FileRef}
 use Rattle.guest_dax.specs.Stands.{Stand}
-use Rattle.guest_dax.specs.Looks.{NoLooks}
+use Rattle.guest_dax.specs.Looks.{NoLooks, looks_from}
+use Rattle.guest_dax.specs.Pinning.{PlacesIn}
 use Rattle.guest_io.specs.declared.calls.Done.{Done}
+use Rattle.guest_io.specs.declared.calls.Held.{Held}
 use Rattle.guest_io.specs.declared.calls.Refusal.{Refusal}
 use Rattle.guest_io.specs.declared.calls.Refusal.TheVariants as refusals
-use Rattle.guest_io.specs.Calls.{Directs}
-use Rattle.guest_io.specs.Requests.{IsHome, IsUndone}
+use Rattle.guest_io.specs.declared.guest.Granted.{Granted}
+use Rattle.guest_io.specs.declared.guest.Holds.{Holds}
+use Rattle.guest_io.specs.Calls.{Directs, first_chunk, last_chunk}
+use Rattle.guest_io.specs.Requests.{IsHome}
 use Rattle.guest_io.specs.Ways.{IsReadWay, IsWriteWay}
-use Rattle.guest_io.specs.Going.{KeepsSizes, IsBusy}
-use Rattle.guest_run.specs.Runs.{Asked, asked}
+use Rattle.guest_io.specs.Going.{KeepsSizes}
+use Rattle.guest_io.specs.Holds.{HasHolds, IsGranted, max_holds, granted_at, start_of, refused_one, released_one}
+use Rattle.guest_run.specs.Telling.{letters_of}
+use Rattle.guest_run.specs.Runs.{Asked, Had, IsAskedBefore, GoesOn}
 
 -- ---- the calls
 
--- the calls that a worker makes
-unfoldable pub is_made_call : Call → Bool
-is_made_call (calls.Read file off len) = true
-is_made_call (calls.Write file off bytes) = true
-is_made_call (calls.Fill file off len byte) = true
-is_made_call (calls.Size file) = true
-is_made_call (calls.Truncate file size) = false
-is_made_call (calls.Hold file chunk mode) = false
-is_made_call (calls.Load hold off len) = false
-is_made_call (calls.Store hold off bytes) = false
-is_made_call (calls.Release hold) = false
+-- a load, a store or a release of a hold that an earlier call than the n-th asked for
+abbrev pub IsOfHold : List Call → ℕ → ℕ → Type 0
+IsOfHold cs n hold = IsAskedBefore cs n hold
 
--- one of them, on one of so many files, within the limits
-unfoldable pub IsCall : ℕ → Call → Type 0
-IsCall files (calls.Read file off len) = (file < files) × (0 < len) × (len ≤ max_transfer) × (off + len ≤ max_file)
-IsCall files (calls.Write file off bytes) = (file < files) × (0 < length bytes) × (length bytes ≤ max_transfer) × (off + length bytes ≤ max_file)
-IsCall files (calls.Fill file off len byte) = (file < files) × (0 < len) × (len ≤ max_transfer) × (off + len ≤ max_file)
-IsCall files (calls.Size file) = file < files
-IsCall files (calls.Truncate file size) = ⊥
-IsCall files (calls.Hold file chunk mode) = ⊥
-IsCall files (calls.Load hold off len) = ⊥
-IsCall files (calls.Store hold off bytes) = ⊥
-IsCall files (calls.Release hold) = ⊥
+-- so many bytes that a call may move
+abbrev pub IsMoved : ℕ → Type 0
+IsMoved len = (0 < len) × (len ≤ max_transfer)
 
-abbrev pub AreCalls : ℕ → List Call → Type 0
-AreCalls files cs = (n : ℕ) (c : Call) → slice_get cs n ≡ Some c → IsCall files c
+-- the hold was asked for with writing
+pub record IsForWriting (cs : List Call) (hold : ℕ) : Type 0 where
+  pub held : Wanted
+  pub by : held_by cs hold ≡ Some held
+  pub mode : held.mode ≡ modes.W
+
+-- The n-th call of a guest is on one of so many files, within the limits. A hold is asked for where there are ranges, over a plain board; a call through a hold follows it.
+unfoldable pub IsCall : ℕ → ℕ → Bool → List Call → ℕ → Call → Type 0
+IsCall files ranges plain cs n (calls.Read file off len) = (file < files) × IsMoved len × (off + len ≤ max_file)
+IsCall files ranges plain cs n (calls.Write file off bytes) = (file < files) × IsMoved (length bytes) × (off + length bytes ≤ max_file)
+IsCall files ranges plain cs n (calls.Fill file off len byte) = (file < files) × IsMoved len × (off + len ≤ max_file)
+IsCall files ranges plain cs n (calls.Size file) = file < files
+IsCall files ranges plain cs n (calls.Truncate file size) = (file < files) × (size ≤ max_file)
+IsCall files ranges plain cs n (calls.Hold file chunk mode) = (file < files) × (chunk < max_chunks) × (0 < ranges) × (plain ≡ true) × (length (hold_places 0 (take n cs)) < max_holds)
+IsCall files ranges plain cs n (calls.Load hold off len) = IsOfHold cs n hold × IsMoved len × (off + len ≤ range_size)
+IsCall files ranges plain cs n (calls.Store hold off bytes) = IsOfHold cs n hold × IsForWriting cs hold × IsMoved (length bytes) × (off + length bytes ≤ range_size)
+IsCall files ranges plain cs n (calls.Release hold) = IsOfHold cs n hold
+
+abbrev pub AreCalls : ℕ → ℕ → Bool → List Call → Type 0
+AreCalls files ranges plain cs = (n : ℕ) (c : Call) → slice_get cs n ≡ Some c → IsCall files ranges plain cs n c
 
 -- the most calls of a guest
 abbrev pub max_calls : ℕ
@@ -67,24 +82,23 @@ max_calls = 65536
 
 -- ---- what they rest on
 
--- A guest over an honest wire that has nothing in hand but some pins and leases, of which it may have more.
-pub record IsIdle (s : Stand) (refs : List FileRef) : Type 0 where
+-- A guest over an honest wire that has its holds, and nothing else in hand.
+pub record IsIdle (s : Stand) (refs : List FileRef) (h : Holds) : Type 0 where
   pub home : IsHome s refs
   pub honest : s.wire.honest ≡ true
   pub tree : s.map.hands.tree ≡ None
   pub moves : s.map.hands.moves ≡ None
-  pub few : sum s.map.hands.pins + 1 < max_pins
   pub looks : NoLooks s.map
   pub may_lease : s.files.may_lease ≡ true
   pub unbarred : s.files.hands.bar ≡ None
-  pub leases : sum s.files.hands.leases < 64
+  pub holds : HasHolds s h
   pub sizes : KeepsSizes s.files
 
--- nobody else takes or pins ranges, of which there are none or more than one, and nothing is pinned
-pub record IsAlone (v : MapView) : Type 0 where
-  pub alone : v.ranges.others ≡ false
-  pub count : range_count v ≢ 1
-  pub unpinned : sum v.hands.pins ≡ 0
+-- nobody else takes or pins ranges, of which there are none or more than one, and nobody else leases files
+pub record IsAlone (s : Stand) : Type 0 where
+  pub ranges : s.map.ranges.others ≡ false
+  pub count : range_count s.map ≢ 1
+  pub files : s.files.others ≡ false
 
 -- what a board has seen of each file, and of its placement log
 abbrev pub first_at : BoardView → ℕ → First
@@ -92,6 +106,68 @@ first_at v f = (file_at v f).first
 
 abbrev pub history_at : BoardView → ℕ → List Entry
 history_at v f = (file_at v f).history
+
+-- ---- what a guest's own holds keep from being done
+
+abbrev pub is_held_on : ℕ → Option Wanted → Bool
+is_held_on file None = false
+is_held_on file (Some held) = held.file == file
+
+-- by the lines before its n-th call the guest has a hold on the file
+abbrev pub is_had_on : List Call → List Numbered → ℕ → ℕ → ℕ → Bool
+is_had_on cs ls file n hold = is_some (had_grant cs (take n ls) hold n) && is_held_on file (held_by cs hold)
+
+-- how many of so many holds from this number on
+unfoldable pub had_from : List Call → List Numbered → ℕ → ℕ → ℕ → ℕ → ℕ
+had_from cs ls file n hold zero = 0
+had_from cs ls file n hold (suc k) = (if is_had_on cs ls file n hold then 1 else 0) + had_from cs ls file n (hold + 1) k
+
+-- how many holds the guest has on the file before its n-th call
+abbrev pub holds_on : List Call → List Numbered → ℕ → ℕ → ℕ
+holds_on cs ls file n = had_from cs ls file n 0 max_holds
+
+-- a truncation is refused for just so many leases, and done exactly where there is none
+unfoldable pub IsBarredBy : ℕ → Line → Type 0
+IsBarredBy held (lines.Done place answer) = held ≡ 0
+IsBarredBy held (lines.Leased count) = (0 < held) × (count ≡ held)
+IsBarredBy held (lines.Held end through) = ⊥
+IsBarredBy held lines.Released = ⊥
+IsBarredBy held (lines.Busy letters) = ⊥
+IsBarredBy held lines.NoHold = ⊥
+IsBarredBy held (lines.Past end) = ⊥
+
+-- the range is that of a hold that the guest has, by the lines before its n-th call: the hold's entry in its file's log places its chunk there
+pub record IsHeldRange (logs : ℕ → List LogEntry) (cs : List Call) (ls : List Numbered) (n range : ℕ) : Type 0 where
+  pub hold : ℕ
+  pub held : Wanted
+  pub grant : Grant
+  pub by : held_by cs hold ≡ Some held
+  pub had : Had cs (take n ls) n hold grant
+  pub entry : PlacesIn (logs held.file) grant.through.entry held.chunk range
+
+-- the bytes that a call reads or writes lie in two chunks
+unfoldable pub MeetsTwo : Call → Type 0
+MeetsTwo (calls.Read file off len) = last_chunk off len ≡ first_chunk off + 1
+MeetsTwo (calls.Write file off bytes) = last_chunk off (length bytes) ≡ first_chunk off + 1
+MeetsTwo (calls.Fill file off len byte) = last_chunk off len ≡ first_chunk off + 1
+MeetsTwo (calls.Size file) = ⊥
+MeetsTwo (calls.Truncate file size) = ⊥
+MeetsTwo (calls.Hold file chunk mode) = ⊥
+MeetsTwo (calls.Load hold off len) = ⊥
+MeetsTwo (calls.Store hold off bytes) = ⊥
+MeetsTwo (calls.Release hold) = ⊥
+
+-- Each range was pinned, and is that of a hold that the guest has; one may be missing where the call's bytes lie in two chunks.
+pub record IsHeldUp (ranges : ℕ) (logs : ℕ → List LogEntry) (cs : List Call) (ls : List Numbered) (n : ℕ) (c : Call) (letters : List ℕ) : Type 0 where
+  pub pinned : letters ≡ replicate ranges 112
+  pub missing : Option ℕ
+  pub two : IfSome missing (λ range. MeetsTwo c)
+  pub each : (range : ℕ) → range < ranges → missing ≢ Some range → IsHeldRange logs cs ls n range
+
+-- the lines of a guest that is alone: a truncation is refused exactly for its own holds on the file, and where no range could be taken, its own holds have them
+pub record IsFair (ranges : ℕ) (logs : ℕ → List LogEntry) (cs : List Call) (ls : List Numbered) : Type 0 where
+  pub barred : (n file size : ℕ) (l : Numbered) → slice_get cs n ≡ Some (calls.Truncate file size) → slice_get ls n ≡ Some l → IsBarredBy (holds_on cs ls file n) l.line
+  pub held_up : (n : ℕ) (c : Call) (l : Numbered) (letters : List ℕ) → slice_get cs n ≡ Some c → slice_get ls n ≡ Some l → l.line ≡ lines.Busy letters → IsHeldUp ranges logs cs ls n c letters
 
 -- ---- what comes of a call
 
@@ -102,47 +178,165 @@ CameBy keeps ranges log old new (ops.Write off bytes) place way = IsWriteWay kee
 CameBy keeps ranges log old new (ops.Truncate size) place way = way ≡ ways.Req
 CameBy keeps ranges log old new ops.Size place way = way ≡ ways.Req
 
--- The n-th call was done: others' entries came first, then its one entry.
-pub record IsMade (old : Stand) (n : ℕ) (c : Call) (d : Done) (new : Stand) : Type 0 where
+-- it came through a hold that the guest has, and ends within it
+pub record CameThrough (h : Holds) (hold : ℕ) (op : Op) (came : Way) : Type 0 where
+  pub granted : Granted
+  pub had : granted_at h hold ≡ Some granted
+  pub way : came ≡ ways.Via granted.pinned.through None
+  pub within : end_of op ≤ granted.end
+
+-- the operation of a call, by the hold that it uses
+unfoldable pub CameFrom : Stand → Holds → Asked → Done → Way → Stand → Option ℕ → Type 0
+CameFrom s h to d way t None = CameBy (KeepsSizes s.files) (range_count s.map) (log_at t.map to.file) (file_at s.files to.file) (file_at t.files to.file) to.op d.place way
+CameFrom s h to d way t (Some hold) = CameThrough h hold to.op way
+
+-- what is asked through a hold that the guest has
+abbrev pub AsksThrough : Holds → ℕ → (ℕ → Op) → Asked → Type 0
+AsksThrough h hold op to = (g : Granted) × (granted_at h hold ≡ Some g) × (to ≡ record { file = g.file; op = op (start_of g) })
+
+-- what a call of a guest with these holds asks of its file
+unfoldable pub Asks : Holds → Call → Asked → Type 0
+Asks h (calls.Read file off len) to = to ≡ record { file = file; op = ops.Read off len }
+Asks h (calls.Write file off bytes) to = to ≡ record { file = file; op = ops.Write off bytes }
+Asks h (calls.Fill file off len byte) to = to ≡ record { file = file; op = ops.Write off (replicate len byte) }
+Asks h (calls.Size file) to = to ≡ record { file = file; op = ops.Size }
+Asks h (calls.Truncate file size) to = (to ≡ record { file = file; op = ops.Truncate size })
+Asks h (calls.Hold file chunk mode) to = ⊥
+Asks h (calls.Load hold off len) to = AsksThrough h hold (λ start. ops.Read (start + off) len) to
+Asks h (calls.Store hold off bytes) to = AsksThrough h hold (λ start. ops.Write (start + off) bytes) to
+Asks h (calls.Release hold) to = ⊥
+
+-- no entry of the guest's is more, and others' entries may be seen
+abbrev pub OnlyOthers : BoardView → BoardView → Type 0
+OnlyOthers old new = (f : ℕ) → GoesOn old.guest (history_at old f) (history_at new f)
+
+-- The n-th call was done: others' entries came first, then its one entry. A truncation found no lease of the guest's own on its file.
+pub record IsMade (s : Stand) (h : Holds) (n : ℕ) (c : Call) (d : Done) (t : Stand) : Type 0 where
   pub to : Asked
   pub way : Way
-  pub asks : asked c ≡ Some to
-  pub directs : Directs old.files to.file n way to.op d new.files
-  pub came : CameBy (KeepsSizes old.files) (range_count old.map) (log_at new.map to.file) (file_at old.files to.file) (file_at new.files to.file) to.op d.place way
+  pub asks : Asks h c to
+  pub directs : Directs s.files to.file n way to.op d t.files
+  pub came : CameFrom s h to d way t (hold_in c)
+  pub unbarred : is_truncating c ≡ true → leases_on s.files to.file ≡ 0
 
--- It wasn't, since no range could be taken.
-pub record IsStuck (old : Stand) (c : Call) (looked : List Look) (new : Stand) : Type 0 where
-  pub to : Asked
-  pub asks : asked c ≡ Some to
+-- a hold was granted
+pub record IsHeldNow (s : Stand) (h : Holds) (c : Call) (held : Held) (t : Stand) (k : Holds) : Type 0 where
+  pub file : ℕ
+  pub chunk : ℕ
+  pub mode : Mode
+  pub asks : c ≡ calls.Hold file chunk mode
+  pub plain : s.files.plain ≡ true
+  pub granted : IsGranted s h file chunk mode held t k
+  pub others : OnlyOthers s.files t.files
+
+-- a hold was given back
+pub record IsReleased (s : Stand) (h : Holds) (c : Call) (t : Stand) (k : Holds) : Type 0 where
+  pub hold : ℕ
+  pub granted : Granted
+  pub asks : c ≡ calls.Release hold
+  pub had : granted_at h hold ≡ Some granted
+  pub holds : k ≡ released_one h hold
+  pub others : OnlyOthers s.files t.files
+
+-- the holds after a call was refused: a hold counts all the same
+unfoldable pub after_refusal : Call → Holds → Holds
+after_refusal (calls.Hold file chunk mode) h = refused_one h
+after_refusal (calls.Read file off len) h = h
+after_refusal (calls.Write file off bytes) h = h
+after_refusal (calls.Fill file off len byte) h = h
+after_refusal (calls.Size file) h = h
+after_refusal (calls.Truncate file size) h = h
+after_refusal (calls.Load hold off len) h = h
+after_refusal (calls.Store hold off bytes) h = h
+after_refusal (calls.Release hold) h = h
+
+-- each range was pinned, and is that of a hold of the guest's; one may be missing where the call's bytes lie in two chunks
+pub record IsFull (ranges : ℕ) (h : Holds) (c : Call) (letters : List ℕ) : Type 0 where
+  pub pinned : letters ≡ replicate ranges 112
+  pub missing : Option ℕ
+  pub two : IfSome missing (λ range. MeetsTwo c)
+  pub each : (range : ℕ) → range < ranges → missing ≢ Some range → (hold : ℕ) × (g : Granted) × (granted_at h hold ≡ Some g) × (g.pinned.range ≡ range)
+
+-- no range could be taken; where the guest is alone, its own holds have them
+pub record IsStuck (s : Stand) (h : Holds) (c : Call) (letters : List ℕ) (t : Stand) (k : Holds) : Type 0 where
   pub takes : is_taking c ≡ true
-  pub off : ℕ
-  pub len : ℕ
-  pub busy : IsBusy old.map to.file off len looked new.map
-  pub undone : IsUndone old.files to.file new.files
+  pub some : 0 < range_count s.map
+  pub each : length letters ≡ range_count s.map
+  pub others : OnlyOthers s.files t.files
+  pub holds : k ≡ after_refusal c h
+  pub full : IsAlone s → IsFull (range_count s.map) h c letters
 
--- what the guest answers to the n-th call over an honest wire
-abbrev pub Comes : Stand → ℕ → Call → Result Done Refusal → Stand → Type 0
-Comes old n c (Ok d) new = NoLooks new.map × IsMade old n c d new
-Comes old n c (Err (refusals.Busy looked)) new = IsStuck old c looked new
-Comes old n c (Err refusals.Memory) new = NoLooks new.map
-Comes old n c (Err e) new = ⊥
+-- a file is leased; where the guest is alone, by its own holds
+pub record IsLeasedNow (s : Stand) (h : Holds) (c : Call) (count : ℕ) (t : Stand) (k : Holds) : Type 0 where
+  pub file : ℕ
+  pub size : ℕ
+  pub asks : c ≡ calls.Truncate file size
+  pub some : 0 < count
+  pub own : IsAlone s → count ≡ leases_on s.files file
+  pub others : OnlyOthers s.files t.files
+  pub holds : k ≡ h
 
--- a call that wasn't done has a line with a letter for each range; there is none where the guest is alone with its ranges
-pub record IsGivenUp (old : Stand) (c : Call) (l : Line) (new : Stand) : Type 0 where
+-- the guest hasn't the hold that a call uses
+pub record IsGone (s : Stand) (h : Holds) (c : Call) (t : Stand) (k : Holds) : Type 0 where
+  pub hold : ℕ
+  pub uses : hold_in c ≡ Some hold
+  pub none : granted_at h hold ≡ None
+  pub others : OnlyOthers s.files t.files
+  pub holds : k ≡ h
+
+-- an access ends above the end of the hold that it uses
+pub record IsBeyond (s : Stand) (h : Holds) (c : Call) (told : ℕ) (t : Stand) (k : Holds) : Type 0 where
+  pub hold : ℕ
+  pub granted : Granted
   pub to : Asked
-  pub asks : asked c ≡ Some to
-  pub takes : is_taking c ≡ true
-  pub undone : IsUndone old.files to.file new.files
-  pub letters : List ℕ
-  pub line : l ≡ lines.Busy letters
-  pub some : 0 < range_count old.map
-  pub each : length letters ≡ range_count old.map
-  pub others : IsAlone old.map → ⊥
+  pub uses : hold_in c ≡ Some hold
+  pub had : granted_at h hold ≡ Some granted
+  pub asks : Asks h c to
+  pub end : told ≡ granted.end
+  pub past : granted.end < end_of to.op
+  pub others : OnlyOthers s.files t.files
+  pub holds : k ≡ h
 
--- what the line of the n-th call tells; of want of memory nothing is said
-abbrev pub Tells : Stand → ℕ → Call → Result Line Memory → Stand → Type 0
-Tells old n c (Ok l) new = ((d : Done) × (l ≡ lines.Done d.place d.answer) × IsMade old n c d new) ⊎ IsGivenUp old c l new
-Tells old n c (Err e) new = Unit {0}
+-- what the line of the n-th call tells, of a guest with these holds before it and those behind it
+unfoldable pub Tells : Stand → Holds → ℕ → Call → Line → Stand → Holds → Type 0
+Tells s h n c (lines.Done place answer) t k = IsMade s h n c (record { place = place; answer = answer }) t × (k ≡ h)
+Tells s h n c (lines.Held end through) t k = IsHeldNow s h c (record { end = end; through = through }) t k
+Tells s h n c lines.Released t k = IsReleased s h c t k
+Tells s h n c (lines.Busy letters) t k = IsStuck s h c letters t k
+Tells s h n c (lines.Leased count) t k = IsLeasedNow s h c count t k
+Tells s h n c lines.NoHold t k = IsGone s h c t k
+Tells s h n c (lines.Past end) t k = IsBeyond s h c end t k
+
+-- ---- one call by itself
+
+-- a guest with these holds can make the call: it is on one of so many files, within the limits; a store's hold was granted for writing
+unfoldable pub CanMake : Stand → Holds → ℕ → Call → Type 0
+CanMake s h files (calls.Read file off len) = (file < files) × IsMoved len × (off + len ≤ max_file)
+CanMake s h files (calls.Write file off bytes) = (file < files) × IsMoved (length bytes) × (off + length bytes ≤ max_file)
+CanMake s h files (calls.Fill file off len byte) = (file < files) × IsMoved len × (off + len ≤ max_file)
+CanMake s h files (calls.Size file) = file < files
+CanMake s h files (calls.Truncate file size) = (file < files) × (size ≤ max_file)
+CanMake s h files (calls.Hold file chunk mode) = (file < files) × (chunk < max_chunks) × (0 < range_count s.map) × (s.files.plain ≡ true) × (h.asked < max_holds)
+CanMake s h files (calls.Load hold off len) = IsMoved len × (off + len ≤ range_size)
+CanMake s h files (calls.Store hold off bytes) = IfSome (granted_at h hold) (λ g. g.mode ≡ modes.W) × IsMoved (length bytes) × (off + length bytes ≤ range_size)
+CanMake s h files (calls.Release hold) = Unit {0}
+
+-- an answer as a line, where the call was done
+abbrev pub IsToldOf : Result Done Refusal → Result Line Refusal → Type 0
+IsToldOf (Ok d) (Ok l) = l ≡ lines.Done d.place d.answer
+IsToldOf (Err e) (Err f) = f ≡ e
+IsToldOf (Ok d) (Err f) = ⊥
+IsToldOf (Err e) (Ok l) = ⊥
+
+-- What the guest answers to the n-th call over an honest wire: what its line will tell. Where no range could be taken, the looks are noted, one for each range of a sound board; else none is.
+abbrev pub Comes : Stand → Holds → ℕ → Call → Result Line Refusal → Stand → Holds → Type 0
+Comes s h n c (Ok l) t k = NoLooks t.map × Tells s h n c l t k
+Comes s h n c (Err (refusals.Busy looked)) t k = (looked ≡ looks_from 0 t.map.ranges.looks) × (IsSoundRanges t.map → IsStuck s h c (letters_of looked) t k)
+Comes s h n c (Err (refusals.Leased count)) t k = NoLooks t.map × IsLeasedNow s h c count t k
+Comes s h n c (Err (refusals.NoHold hold)) t k = NoLooks t.map × IsGone s h c t k
+Comes s h n c (Err (refusals.Past end)) t k = NoLooks t.map × IsBeyond s h c end t k
+Comes s h n c (Err refusals.Memory) t k = NoLooks t.map
+Comes s h n c (Err e) t k = ⊥
 
 -- a line says that its call is done
 unfoldable pub is_done_line : Line → Bool

@@ -2,14 +2,16 @@ ghost use Rattle.std.specs.Prelude.{◌≡◌, ◌+◌, ◌<◌, ◌≤◌, ℕ,
 ghost use Rattle.std.specs.List.{AllByRecursion};
 ghost use Rattle.page_map.specs.Board.{MapView, log_at};
 ghost use Rattle.range_tree.specs.Ranges.{range_count};
+ghost use Rattle.dax_script.specs.declared.scripts.Call.{Call};
 ghost use Rattle.transcript_text.specs.TranscriptReading.{IsPrintableNumbered, IsPrintableLine};
 ghost use Rattle.guest_dax.specs.Stands.{stand};
-ghost use Rattle.guest_run.specs.Runs.{IsRunFrom};
 ghost use Rattle.guest_io.specs.Requests.{IsHome};
-ghost use Rattle.guest_io.specs.Going.{LeavesAll};
-ghost use Rattle.guest_run.specs.Working.{IsIdle, IsAlone, IsCall, AreCalls, max_calls, first_at, history_at, Comes, Tells, AllDone};
+ghost use Rattle.guest_io.specs.Holds.{HasHolds, LeavesRest};
+ghost use Rattle.guest_run.specs.Runs.{IsRunFrom};
+ghost use Rattle.guest_run.specs.Working.{IsIdle, IsAlone, CanMake, AreCalls, IsFair, max_calls, first_at, history_at, Tells, Comes, IsToldOf};
+ghost use Rattle.guest_run.specs.Telling.{HasFields};
 
-use crate::lines::line_of;
+use crate::lines::{done_line, held_line, line_of};
 use dax_script::Call;
 use guest_io::{Done, Guest, Refusal};
 use guest_wire::Wire;
@@ -20,10 +22,14 @@ use std::sync::Wait;
 use transcript_text::{Line, Numbered};
 
 /// Makes the calls of a guest one after another, and tells a line of each: that it is done, with its place in
-/// its file's history and its answer; or that no range could be taken, with a letter for each range: `p` where
-/// it was pinned, `m` where it was moving.
+/// its file's history and its answer; that a hold was granted, with its end and its placement, or given back;
+/// that no range could be taken, with a letter for each range: `p` where it was pinned, `m` where it was
+/// moving; that a file is leased, and how often; that a hold isn't granted; or that an access ends above its
+/// hold's end.
 ///
-/// Where nobody else takes ranges, and nothing is pinned before, each is done. `Memory` comes where an
+/// The guest has asked for no hold yet. Where nobody else takes ranges or leases files, a truncation is refused
+/// exactly for its own holds on the file, and a call is told that no range could be taken only where its own
+/// holds have all of them, but perhaps one where its bytes lie in two chunks. `Memory` comes where an
 /// allocation was refused; then some of the calls were made. It waits as the guest's calls do.
 pub fn worker<T: Wait, W, F: FileTurns, R: RangeBoard>(
     rt: &T,
@@ -33,13 +39,15 @@ pub fn worker<T: Wait, W, F: FileTurns, R: RangeBoard>(
 ) -> Result<List<Numbered>, Memory>
 where
     W: Wire<F, R>,
-    requires idle { IsIdle (stand (W.wire guest.old.dax.driver.wire) (F.board guest.old.dax.files) (R.map guest.old.dax.ranges)) guest.old.dax.refs }
+    requires idle { IsIdle (stand (W.wire guest.old.dax.driver.wire) (F.board guest.old.dax.files) (R.map guest.old.dax.ranges)) guest.old.dax.refs guest.old.holds }
+    requires fresh { guest.old.holds.asked ≡ 0 }
     requires few { length calls.now ≤ max_calls }
-    requires calls { AreCalls (length guest.old.dax.refs) calls.now }
-    ensures idle { IsIdle (stand (W.wire guest.new.dax.driver.wire) (F.board guest.new.dax.files) (R.map guest.new.dax.ranges)) guest.new.dax.refs }
-    ensures leaves { LeavesAll (stand (W.wire guest.old.dax.driver.wire) (F.board guest.old.dax.files) (R.map guest.old.dax.ranges)) (stand (W.wire guest.new.dax.driver.wire) (F.board guest.new.dax.files) (R.map guest.new.dax.ranges)) }
+    requires calls { AreCalls (length guest.old.dax.refs) (range_count (R.map guest.old.dax.ranges)) (F.board guest.old.dax.files).plain calls.now }
+    ensures idle { IsIdle (stand (W.wire guest.new.dax.driver.wire) (F.board guest.new.dax.files) (R.map guest.new.dax.ranges)) guest.new.dax.refs guest.new.holds }
+    ensures rest { LeavesRest (stand (W.wire guest.old.dax.driver.wire) (F.board guest.old.dax.files) (R.map guest.old.dax.ranges)) (stand (W.wire guest.new.dax.driver.wire) (F.board guest.new.dax.files) (R.map guest.new.dax.ranges)) }
     ensures run { IfOk result (IsRunFrom (F.board guest.old.dax.files).guest (range_count (R.map guest.old.dax.ranges)) (first_at (F.board guest.old.dax.files)) (λ f. length (history_at (F.board guest.old.dax.files) f)) (history_at (F.board guest.new.dax.files)) (log_at (R.map guest.new.dax.ranges)) calls.now) }
-    ensures done { IsAlone (R.map guest.old.dax.ranges) → IfOk result AllDone }
+    ensures count { IfOk result (λ lines. length lines ≡ length calls.now) }
+    ensures fair { IsAlone (stand (W.wire guest.old.dax.driver.wire) (F.board guest.old.dax.files) (R.map guest.old.dax.ranges)) → IfOk result (IsFair (range_count (R.map guest.old.dax.ranges)) (log_at (R.map guest.new.dax.ranges)) calls.now) }
     ensures printable { IfOk result (AllByRecursion IsPrintableNumbered) }
     ensures refs { guest.new.dax.refs ≡ guest.old.dax.refs }
 {
@@ -65,11 +73,11 @@ fn make_call<T: Wait, W, F: FileTurns, R: RangeBoard>(
 ) -> Result<Line, Memory>
 where
     W: Wire<F, R>,
-    requires idle { IsIdle (stand (W.wire guest.old.dax.driver.wire) (F.board guest.old.dax.files) (R.map guest.old.dax.ranges)) guest.old.dax.refs }
-    requires call { IsCall (length guest.old.dax.refs) call.now }
-    ensures idle { IsIdle (stand (W.wire guest.new.dax.driver.wire) (F.board guest.new.dax.files) (R.map guest.new.dax.ranges)) guest.new.dax.refs }
-    ensures leaves { LeavesAll (stand (W.wire guest.old.dax.driver.wire) (F.board guest.old.dax.files) (R.map guest.old.dax.ranges)) (stand (W.wire guest.new.dax.driver.wire) (F.board guest.new.dax.files) (R.map guest.new.dax.ranges)) }
-    ensures tells { Tells (stand (W.wire guest.old.dax.driver.wire) (F.board guest.old.dax.files) (R.map guest.old.dax.ranges)) number call.now result (stand (W.wire guest.new.dax.driver.wire) (F.board guest.new.dax.files) (R.map guest.new.dax.ranges)) }
+    requires idle { IsIdle (stand (W.wire guest.old.dax.driver.wire) (F.board guest.old.dax.files) (R.map guest.old.dax.ranges)) guest.old.dax.refs guest.old.holds }
+    requires call { CanMake (stand (W.wire guest.old.dax.driver.wire) (F.board guest.old.dax.files) (R.map guest.old.dax.ranges)) guest.old.holds (length guest.old.dax.refs) call.now }
+    ensures idle { IsIdle (stand (W.wire guest.new.dax.driver.wire) (F.board guest.new.dax.files) (R.map guest.new.dax.ranges)) guest.new.dax.refs guest.new.holds }
+    ensures rest { LeavesRest (stand (W.wire guest.old.dax.driver.wire) (F.board guest.old.dax.files) (R.map guest.old.dax.ranges)) (stand (W.wire guest.new.dax.driver.wire) (F.board guest.new.dax.files) (R.map guest.new.dax.ranges)) }
+    ensures tells { IfOk result (λ l. Tells (stand (W.wire guest.old.dax.driver.wire) (F.board guest.old.dax.files) (R.map guest.old.dax.ranges)) guest.old.holds number call.now l (stand (W.wire guest.new.dax.driver.wire) (F.board guest.new.dax.files) (R.map guest.new.dax.ranges)) guest.new.holds) }
     ensures printable { IfOk result IsPrintableLine }
     ensures refs { guest.new.dax.refs ≡ guest.old.dax.refs }
 {
@@ -77,8 +85,8 @@ where
     line_of(alloc, guest, answer)
 }
 
-// One call, and the guest's answer.
-#[tactic(auto, unfolding(crate::specs::Working::IsCall))]
+// One call, and the guest's answer, as a line where it was done.
+#[tactic(auto, unfolding(crate::specs::Working::CanMake))]
 fn ask<T: Wait, W, F: FileTurns, R: RangeBoard>(
     rt: &T,
     alloc: Global,
@@ -86,20 +94,22 @@ fn ask<T: Wait, W, F: FileTurns, R: RangeBoard>(
     number: u32,
     call: &Call,
     filling: &mut Vec<u8>,
-) -> Result<Done, Refusal>
+) -> Result<Line, Refusal>
 where
     W: Wire<F, R>,
-    requires idle { IsIdle (stand (W.wire guest.old.dax.driver.wire) (F.board guest.old.dax.files) (R.map guest.old.dax.ranges)) guest.old.dax.refs }
-    requires call { IsCall (length guest.old.dax.refs) call.now }
+    requires idle { IsIdle (stand (W.wire guest.old.dax.driver.wire) (F.board guest.old.dax.files) (R.map guest.old.dax.ranges)) guest.old.dax.refs guest.old.holds }
+    requires call { CanMake (stand (W.wire guest.old.dax.driver.wire) (F.board guest.old.dax.files) (R.map guest.old.dax.ranges)) guest.old.holds (length guest.old.dax.refs) call.now }
     ensures home { IsHome (stand (W.wire guest.new.dax.driver.wire) (F.board guest.new.dax.files) (R.map guest.new.dax.ranges)) guest.new.dax.refs }
-    ensures leaves { LeavesAll (stand (W.wire guest.old.dax.driver.wire) (F.board guest.old.dax.files) (R.map guest.old.dax.ranges)) (stand (W.wire guest.new.dax.driver.wire) (F.board guest.new.dax.files) (R.map guest.new.dax.ranges)) }
-    ensures comes { Comes (stand (W.wire guest.old.dax.driver.wire) (F.board guest.old.dax.files) (R.map guest.old.dax.ranges)) number call.now result (stand (W.wire guest.new.dax.driver.wire) (F.board guest.new.dax.files) (R.map guest.new.dax.ranges)) }
+    ensures holds { HasHolds (stand (W.wire guest.new.dax.driver.wire) (F.board guest.new.dax.files) (R.map guest.new.dax.ranges)) guest.new.holds }
+    ensures rest { LeavesRest (stand (W.wire guest.old.dax.driver.wire) (F.board guest.old.dax.files) (R.map guest.old.dax.ranges)) (stand (W.wire guest.new.dax.driver.wire) (F.board guest.new.dax.files) (R.map guest.new.dax.ranges)) }
+    ensures comes { Comes (stand (W.wire guest.old.dax.driver.wire) (F.board guest.old.dax.files) (R.map guest.old.dax.ranges)) guest.old.holds number call.now result (stand (W.wire guest.new.dax.driver.wire) (F.board guest.new.dax.files) (R.map guest.new.dax.ranges)) guest.new.holds }
+    ensures fields { IfOk result HasFields }
     ensures refs { guest.new.dax.refs ≡ guest.old.dax.refs }
 {
     match call {
-        Call::Read { file, off, len } => guest.read(rt, alloc, number, *file, *off, *len),
+        Call::Read { file, off, len } => told(guest.read(rt, alloc, number, *file, *off, *len)),
         Call::Write { file, off, bytes } => {
-            guest.write(rt, alloc, number, *file, *off, bytes.as_slice())
+            told(guest.write(rt, alloc, number, *file, *off, bytes.as_slice()))
         }
         Call::Fill {
             file,
@@ -107,15 +117,34 @@ where
             len,
             byte,
         } => match fill(filling, *len, *byte) {
-            Ok(()) => guest.write(rt, alloc, number, *file, *off, filling.as_slice()),
+            Ok(()) => told(guest.write(rt, alloc, number, *file, *off, filling.as_slice())),
             Err(_) => Err(Refusal::Memory),
         },
-        Call::Size { file } => guest.size(rt, alloc, number, *file),
-        Call::Truncate { .. }
-        | Call::Hold { .. }
-        | Call::Load { .. }
-        | Call::Store { .. }
-        | Call::Release { .. } => unreachable!(),
+        Call::Size { file } => told(guest.size(rt, alloc, number, *file)),
+        Call::Truncate { file, size } => told(guest.truncate(rt, alloc, number, *file, *size)),
+        Call::Hold { file, chunk, mode } => match guest.hold(rt, alloc, *file, *chunk, *mode) {
+            Ok(held) => Ok(held_line(held)),
+            Err(refusal) => Err(refusal),
+        },
+        Call::Load { hold, off, len } => told(guest.load(rt, alloc, number, *hold, *off, *len)),
+        Call::Store { hold, off, bytes } => {
+            told(guest.store(rt, alloc, number, *hold, *off, bytes.as_slice()))
+        }
+        Call::Release { hold } => match guest.release(*hold) {
+            Ok(()) => Ok(Line::Released),
+            Err(refusal) => Err(refusal),
+        },
+    }
+}
+
+// The answer as a line, where the call was done.
+fn told(answer: Result<Done, Refusal>) -> Result<Line, Refusal>
+    ensures told { IsToldOf answer result }
+    ensures fields { IfOk result HasFields }
+{
+    match answer {
+        Ok(done) => Ok(done_line(done)),
+        Err(refusal) => Err(refusal),
     }
 }
 

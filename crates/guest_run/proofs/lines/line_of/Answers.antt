@@ -1,8 +1,5 @@
-use Rattle.std.proofs.Common.{ap, sym, subst, ◌≡◌, ◌∙◌, ℕ, List, true}
-use Rattle.std.specs.List.{list_all}
-use Rattle.transcript_text.specs.TranscriptReading.{is_letter}
 use Rattle.guest_run.specs.Telling.{HasFields}
-use Rattle.guest_run.proofs.Telling.{letters_are}
+use Rattle.guest_run.proofs.Letters.{letters_are}
 use Rattle.guest_run.proofs.lines.line_of.Goals as goal
 
 pub returns-in_ok-letters-in-Err-Busy-clause-fields : goal.returns-in_ok-letters-in-Err-Busy-clause-fields

@@ -1,20 +1,78 @@
 use Rattle.std.proofs.Common.{◌∙◌}
 use Rattle.guest_dax.specs.Stands.{stand}
-use Rattle.guest_run.proofs.Coming.{comes_read, comes_written, comes_filled, comes_size, still_no_looks}
-use Rattle.guest_run.proofs.Stepping.{LeavesAll-same}
+use Rattle.guest_io.proofs.HoldLaws.{pins-few, leases-few, HasHolds-leaves}
+use Rattle.guest_run.specs.Telling.{HasFields}
+use Rattle.guest_run.specs.Working.{CanMake}
+use Rattle.guest_run.proofs.Coming.{still_no_looks, comes_read, comes_written, comes_filled, comes_size, comes_truncated, comes_held, comes_unheld_by, comes_loaded, comes_stored, comes_released, comes_unreleased_by}
 use Rattle.guest_run.proofs.workers.ask.Goals as goal
 
+pub read-requires-clause-few : goal.read-requires-clause-few
+read-requires-clause-few g c = pins-few _ _ c.requires.idle.holds
+
+pub write-requires-clause-few : goal.write-requires-clause-few
+write-requires-clause-few g c = pins-few _ _ c.requires.idle.holds
+
+pub write-requires-clause-leases : goal.write-requires-clause-leases
+write-requires-clause-leases g c = leases-few _ _ c.requires.idle.holds
+
+pub write-requires-in-Ok-clause-few : goal.write-requires-in-Ok-clause-few
+write-requires-in-Ok-clause-few g c = pins-few _ _ c.requires.idle.holds
+
+pub write-requires-in-Ok-clause-leases : goal.write-requires-in-Ok-clause-leases
+write-requires-in-Ok-clause-leases g c = leases-few _ _ c.requires.idle.holds
+
+pub returns-in-Read-clause-holds : goal.returns-in-Read-clause-holds
+returns-in-Read-clause-holds g c = rw c.read.ensures.holds (HasHolds-leaves _ _ _ c.read.ensures.leaves c.requires.idle.holds)
+
 pub returns-in-Read-clause-comes : goal.returns-in-Read-clause-comes
-returns-in-Read-clause-comes g c = rw c.in-Read.is (comes_read _ _ _ _ _ _ _ c.requires.idle.honest c.read.ensures.reads)
+returns-in-Read-clause-comes g c = rw c.in-Read.is (comes_read _ _ _ _ _ _ _ _ _ _ c.requires.idle.honest c.requires.idle.holds c.read.ensures.holds c.read.ensures.leaves.map.count c.read.ensures.reads c.told.ensures.told)
+
+pub returns-in-Write-clause-holds : goal.returns-in-Write-clause-holds
+returns-in-Write-clause-holds g c = rw c.write.ensures.holds (HasHolds-leaves _ _ _ c.write.ensures.leaves c.requires.idle.holds)
 
 pub returns-in-Write-clause-comes : goal.returns-in-Write-clause-comes
-returns-in-Write-clause-comes g c = rw c.in-Write.is (comes_written _ _ _ _ _ _ _ _ c.as_slice.ensures c.requires.idle.honest c.write.ensures.writes)
+returns-in-Write-clause-comes g c = rw c.in-Write.is (comes_written _ _ _ _ _ _ _ _ _ _ _ c.as_slice.ensures c.requires.idle.honest c.requires.idle.holds c.write.ensures.holds c.write.ensures.leaves.map.count c.write.ensures.writes c.told-in-Write.ensures.told)
+
+pub returns-in-Ok-clause-holds : goal.returns-in-Ok-clause-holds
+returns-in-Ok-clause-holds g c = rw c.write-in-Ok.ensures.holds (HasHolds-leaves _ _ _ c.write-in-Ok.ensures.leaves c.requires.idle.holds)
 
 pub returns-in-Ok-clause-comes : goal.returns-in-Ok-clause-comes
-returns-in-Ok-clause-comes g c = rw c.in-Fill.is (comes_filled _ _ _ _ _ _ _ _ _ (c.as_slice-in-Ok.ensures.value ∙ c.in-Ok.ensures {u = tt}) c.requires.idle.honest c.write-in-Ok.ensures.writes)
+returns-in-Ok-clause-comes g c = rw c.in-Fill.is (comes_filled _ _ _ _ _ _ _ _ _ _ _ _ (c.as_slice-in-Ok.ensures.value ∙ c.in-Ok.ensures {u = tt}) c.requires.idle.honest c.requires.idle.holds c.write-in-Ok.ensures.holds c.write-in-Ok.ensures.leaves.map.count c.write-in-Ok.ensures.writes c.told-in-Ok.ensures.told)
 
-pub returns-in-Err-clause-leaves : goal.returns-in-Err-clause-leaves
-returns-in-Err-clause-leaves g c = LeavesAll-same (stand (g.W.Wire.wire c.args.guest.now.dax.driver.wire) (g.F.FileBoard.board c.args.guest.now.dax.files) (g.R.MapBoard.map c.args.guest.now.dax.ranges))
+pub returns-in-Size-clause-holds : goal.returns-in-Size-clause-holds
+returns-in-Size-clause-holds g c = rw c.size.ensures.holds (HasHolds-leaves _ _ _ c.size.ensures.leaves c.requires.idle.holds)
 
 pub returns-in-Size-clause-comes : goal.returns-in-Size-clause-comes
-returns-in-Size-clause-comes g c = rw c.in-Size.is (comes_size _ _ _ _ _ (still_no_looks _ _ c.size.ensures.rest.map c.requires.idle.looks) c.requires.idle.honest c.size.ensures.sends)
+returns-in-Size-clause-comes g c = rw c.in-Size.is (comes_size _ _ _ _ _ _ _ _ (still_no_looks _ _ c.size.ensures.rest.map c.requires.idle.looks) c.requires.idle.honest c.size.ensures.holds c.size.ensures.sends c.told-in-Size.ensures.told)
+
+pub returns-in-Truncate-clause-holds : goal.returns-in-Truncate-clause-holds
+returns-in-Truncate-clause-holds g c = rw c.truncate.ensures.holds (HasHolds-leaves _ _ _ c.truncate.ensures.leaves c.requires.idle.holds)
+
+pub returns-in-Truncate-clause-comes : goal.returns-in-Truncate-clause-comes
+returns-in-Truncate-clause-comes g c = rw c.in-Truncate.is (comes_truncated _ _ _ _ _ _ _ _ _ (still_no_looks _ _ c.truncate.ensures.map c.requires.idle.looks) c.requires.idle.honest c.truncate.ensures.holds c.truncate.ensures.truncates c.told-in-Truncate.ensures.told)
+
+pub returns-in-Ok-hold-clause-comes : goal.returns-in-Ok-hold-clause-comes
+unfolding CanMake
+returns-in-Ok-hold-clause-comes g c = rw c.in-Hold.is (comes_held _ _ _ _ _ _ _ _ _ _ (rw c.in-Hold.is at c.requires.call).3 (c.hold.ensures.entries c.requires.idle.honest) c.in-Ok-hold.ensures.asks c.held_line.ensures.line)
+
+pub returns-in-Err-hold-clause-comes : goal.returns-in-Err-hold-clause-comes
+returns-in-Err-hold-clause-comes g c = comes_unheld_by _ _ _ _ c.args.number _ _ _ _ _ c.in-Hold.is c.requires.idle.honest c.requires.idle.holds c.in-Err-hold.ensures.rest.map.count (c.in-Err-hold.ensures.entries c.requires.idle.honest) c.in-Err-hold.ensures.asks
+
+pub returns-in-Load-clause-comes : goal.returns-in-Load-clause-comes
+returns-in-Load-clause-comes g c = rw c.in-Load.is (comes_loaded _ _ _ _ _ _ _ _ _ _ (c.load.ensures.looks c.requires.idle.looks) c.load.ensures.holds c.load.ensures.accesses c.told-in-Load.ensures.told)
+
+pub returns-in-Store-clause-comes : goal.returns-in-Store-clause-comes
+returns-in-Store-clause-comes g c = rw c.in-Store.is (comes_stored _ _ _ _ _ _ _ _ _ _ _ c.as_slice-in-Store.ensures (c.store.ensures.looks c.requires.idle.looks) c.store.ensures.holds c.store.ensures.accesses c.told-in-Store.ensures.told)
+
+pub returns-in-Ok-release-clause-comes : goal.returns-in-Ok-release-clause-comes
+returns-in-Ok-release-clause-comes g c =
+    let t = stand (g.W.Wire.wire c.release.new.self.dax.driver.wire) (g.F.FileBoard.board c.release.new.self.dax.files) (g.R.MapBoard.map c.release.new.self.dax.ranges) in
+    let r = c.in-Ok-release.ensures.releases in
+    rw c.in-Release.is (comes_released _ t c.args.guest.now.holds c.release.new.self.holds c.args.number _ (c.release.ensures.looks c.requires.idle.looks) c.release.ensures.entries r.0 r.1 r.3)
+
+pub returns-in-Ok-release-clause-fields : goal.returns-in-Ok-release-clause-fields
+unfolding HasFields
+returns-in-Ok-release-clause-fields g c = tt
+
+pub returns-in-Err-release-clause-comes : goal.returns-in-Err-release-clause-comes
+returns-in-Err-release-clause-comes g c = comes_unreleased_by _ _ _ _ c.args.number _ _ _ c.in-Release.is (c.in-Err-release.ensures.looks c.requires.idle.looks) c.in-Err-release.ensures.entries c.in-Err-release.ensures.releases

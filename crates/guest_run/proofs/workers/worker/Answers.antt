@@ -1,80 +1,91 @@
-use Rattle.std.proofs.Common.{◌≡◌, ◌∙◌, ap, sym, subst, refl, ℕ, ◌+◌, ◌<◌, List, ◌∷◌, ◌++◌, [], length, take, slice_get, Some, true, inl, inr, ⊎_elim, arith}
-use Rattle.std.proofs.Math.Seq.{take-length}
-use Rattle.std.specs.List.{AllByRecursion}
+use Rattle.std.proofs.Common.{◌≡◌, ◌∙◌, ap, sym, refl, ℕ, ◌+◌, ◌<◌, ◌∷◌, [], length, slice_get, Some, arith, length-append}
 use Rattle.page_map.specs.Board.{log_at}
 use Rattle.range_tree.specs.Ranges.{range_count}
-use Rattle.dax_script.specs.declared.scripts.Call.{Call}
 use Rattle.transcript_text.specs.declared.transcripts.Numbered.{Numbered}
 use Rattle.transcript_text.specs.TranscriptReading.{IsPrintableNumbered}
 use Rattle.guest_dax.specs.Stands.{stand}
-use Rattle.guest_run.specs.Runs.{IsRunFrom}
-use Rattle.guest_run.specs.Working.{IsCall, AllDone, is_done_line, first_at, history_at}
-use Rattle.guest_run.proofs.Places.{none_is, at_index, at_end, take_more, take_count, all_push}
+use Rattle.guest_io.specs.Holds.{HasHolds}
+use Rattle.guest_io.proofs.HoldLaws.{LeavesRest-same, LeavesRest-both}
+use Rattle.guest_run.specs.Working.{first_at, history_at}
+use Rattle.guest_run.proofs.Places.{at_index, all_push}
 use Rattle.guest_run.proofs.Guests.{begun}
-use Rattle.guest_run.proofs.Stepping.{one_told, done_told, alone_after, LeavesAll-same, LeavesAll-both}
+use Rattle.guest_run.proofs.Following.{followed_none, can_make, step_followed}
+use Rattle.guest_run.proofs.Running.{step_run}
+use Rattle.guest_run.proofs.Fairness.{alone_after, fair_none, step_fair}
 use Rattle.guest_run.proofs.workers.worker.Goals as goal
 
-pub returns-in_err-with_capacity-clause-leaves : goal.returns-in_err-with_capacity-clause-leaves
-returns-in_err-with_capacity-clause-leaves g c = LeavesAll-same (stand (g.W.Wire.wire c.args.guest.now.dax.driver.wire) (g.F.FileBoard.board c.args.guest.now.dax.files) (g.R.MapBoard.map c.args.guest.now.dax.ranges))
+pub returns-in_err-with_capacity-clause-rest : goal.returns-in_err-with_capacity-clause-rest
+returns-in_err-with_capacity-clause-rest g c = LeavesRest-same (stand (g.W.Wire.wire c.args.guest.now.dax.driver.wire) (g.F.FileBoard.board c.args.guest.now.dax.files) (g.R.MapBoard.map c.args.guest.now.dax.ranges))
 
 pub loop-call-init : goal.loop-call-init
 loop-call-init g c =
     let u = stand (g.W.Wire.wire c.args.guest.now.dax.driver.wire) (g.F.FileBoard.board c.args.guest.now.dax.files) (g.R.MapBoard.map c.args.guest.now.dax.ranges) in
+    let h = c.args.guest.now.holds in
+    let cs = c.args.calls.now in
+    let fresh : h.asked ≡ 0 = c.requires.fresh in
+    let has : HasHolds u h = c.requires.idle.holds in
     let none : c.from_vec-lines.result ≡ [] = c.from_vec-lines.ensures ∙ c.in_ok-with_capacity.ensures.items in
     record {
       number = refl;
+      count = rw none refl;
       idle = c.requires.idle;
-      leaves = LeavesAll-same u;
+      rest = LeavesRest-same u;
       refs = refl;
-      run = subst (λ (ls : List Numbered). IsRunFrom u.files.guest (range_count u.map) (first_at u.files) (λ f. length (history_at u.files f)) (history_at u.files) (log_at u.map) [] ls) (sym none) (begun u.files.guest (range_count u.map) (first_at u.files) (history_at u.files) (log_at u.map));
-      printable = subst (λ (ls : List Numbered). AllByRecursion IsPrintableNumbered ls) (sym none) tt;
-      done = λ alone. subst AllDone (sym none) (λ n l at. absurd (none_is l at));
+      followed = rw none (followed_none cs h fresh (λ hold. has.behind hold (omega (arith, fresh))));
+      run = rw none (begun u.files.guest (range_count u.map) (first_at u.files) (history_at u.files) (log_at u.map) cs);
+      fair = λ alone. rw none (fair_none (range_count u.map) (log_at u.map) cs);
+      printable = rw none tt;
     }
 
-pub returns-in_err-line-clause-leaves : goal.returns-in_err-line-clause-leaves
-returns-in_err-line-clause-leaves g c = LeavesAll-both _ _ _ c.loop-call.invariant.leaves c.in_err-line.ensures.leaves
+pub returns-in_err-line-clause-rest : goal.returns-in_err-line-clause-rest
+returns-in_err-line-clause-rest g c = LeavesRest-both _ _ _ c.loop-call.invariant.rest c.in_err-line.ensures.rest
 
-pub returns-in_err-push-clause-leaves : goal.returns-in_err-push-clause-leaves
-returns-in_err-push-clause-leaves g c = LeavesAll-both _ _ _ c.loop-call.invariant.leaves c.in_ok-line.ensures.leaves
+pub returns-in_err-push-clause-rest : goal.returns-in_err-push-clause-rest
+returns-in_err-push-clause-rest g c = LeavesRest-both _ _ _ c.loop-call.invariant.rest c.in_ok-line.ensures.rest
 
 pub make_call-requires-clause-call : goal.make_call-requires-clause-call
 make_call-requires-clause-call g c =
+    let u = stand (g.W.Wire.wire c.args.guest.now.dax.driver.wire) (g.F.FileBoard.board c.args.guest.now.dax.files) (g.R.MapBoard.map c.args.guest.now.dax.ranges) in
+    let s = stand (g.W.Wire.wire c.loop-call.guest.dax.driver.wire) (g.F.FileBoard.board c.loop-call.guest.dax.files) (g.R.MapBoard.map c.loop-call.guest.dax.ranges) in
     let i = c.loop-call.call-index in
-    let lt : i < length c.args.calls.now = omega arith in
-    rw (c.loop-call.invariant.refs) (c.requires.calls i c.call-item.result (at_index c.args.calls.now i c.call-item.result lt c.call-item.is))
-
-all_done_push : (ls : List Numbered) (l : Numbered) → AllDone ls → is_done_line l.line ≡ true → AllDone (ls ++ l ∷ [])
-all_done_push ls l all last n x at = ⊎_elim (λ (old : slice_get ls n ≡ Some x). all n x old) (λ (new : (n ≡ length ls) × (l ≡ x)). subst (λ (y : Numbered). is_done_line y.line ≡ true) new.1 last) (at_end ls l x n at)
+    let all = c.args.calls.now in
+    let inv = c.loop-call.invariant in
+    let lt : i < length all = omega arith in
+    rw inv.refs (can_make (length c.args.guest.now.dax.refs) (range_count u.map) u.files.plain s c.loop-call.guest.holds all c.loop-call.lines i c.call-item.result c.requires.calls inv.followed (at_index all i c.call-item.result lt c.call-item.is) (sym inv.count) inv.rest.files.plain inv.rest.map.count)
 
 pub loop-call-preserved : goal.loop-call-preserved
 loop-call-preserved g c =
     let u = stand (g.W.Wire.wire c.args.guest.now.dax.driver.wire) (g.F.FileBoard.board c.args.guest.now.dax.files) (g.R.MapBoard.map c.args.guest.now.dax.ranges) in
     let s = stand (g.W.Wire.wire c.loop-call.guest.dax.driver.wire) (g.F.FileBoard.board c.loop-call.guest.dax.files) (g.R.MapBoard.map c.loop-call.guest.dax.ranges) in
     let t = stand (g.W.Wire.wire c.make_call.new.guest.dax.driver.wire) (g.F.FileBoard.board c.make_call.new.guest.dax.files) (g.R.MapBoard.map c.make_call.new.guest.dax.ranges) in
+    let h = c.loop-call.guest.holds in
+    let k = c.make_call.new.guest.holds in
+    let files = length c.args.guest.now.dax.refs in
+    let ranges = range_count u.map in
+    let plain = u.files.plain in
+    let all = c.args.calls.now in
+    let ls = c.loop-call.lines in
     let i = c.loop-call.call-index in
-    let all = c.args.calls.now in
+    let n = c.loop-call.number in
     let call = c.call-item.result in
-    let inv = c.loop-call.invariant in
-    let lt : i < length all = omega arith in
-    let at : slice_get all i ≡ Some call = at_index all i call lt c.call-item.is in
     let line = c.in_ok-line.line in
+    let inv = c.loop-call.invariant in
     let e = c.in_ok-line.ensures in
-    let numbered : Numbered = record { call = c.loop-call.number; line = line } in
-    let run = one_told u.files.guest (range_count u.map) (first_at u.files) (λ f. length (history_at u.files f)) s t (take i all) c.loop-call.lines call c.loop-call.number line (inv.number ∙ sym (take_count all i call at)) inv.leaves.files.guest inv.leaves.map.count inv.leaves.files.firsts inv.idle.sizes e.leaves inv.run e.tells in
+    let lt : i < length all = omega arith in
+    let at : slice_get all n ≡ Some call = ap (λ (m : ℕ). slice_get all m) inv.number ∙ at_index all i call lt c.call-item.is in
+    let number : n ≡ length ls = inv.number ∙ sym inv.count in
+    let numbered : Numbered = record { call = n; line = line } in
+    let longer = c.in_ok-push.ensures.ok in
     record {
-      number = ap (λ (n : ℕ). n + 1) inv.number;
+      number = ap (λ (m : ℕ). m + 1) inv.number;
+      count = rw longer (length-append ls (numbered ∷ []) ∙ (let count = inv.count in omega (arith, count)));
       idle = e.idle;
-      leaves = LeavesAll-both u s t inv.leaves e.leaves;
+      rest = LeavesRest-both u s t inv.rest e.rest;
       refs = e.refs ∙ inv.refs;
-      run = subst (λ (z : List Call × List Numbered). IsRunFrom u.files.guest (range_count u.map) (first_at u.files) (λ f. length (history_at u.files f)) (history_at t.files) (log_at t.map) z.0 z.1) (λ j. (sym (take_more all i call at) j, sym c.in_ok-push.ensures.ok j)) run;
-      printable = subst (λ (xs : List Numbered). AllByRecursion IsPrintableNumbered xs) (sym c.in_ok-push.ensures.ok) (all_push IsPrintableNumbered c.loop-call.lines numbered inv.printable (record { call = omega arith; line = e.printable }));
-      done = λ alone. subst AllDone (sym c.in_ok-push.ensures.ok) (all_done_push c.loop-call.lines numbered (inv.done alone) (done_told s t c.loop-call.number call line (alone_after u s inv.leaves alone) e.tells));
+      followed = rw longer (step_followed files ranges plain s t h k all ls n call line c.requires.calls inv.idle.holds inv.followed number at e.tells);
+      run = rw longer
+          (step_run files ranges plain u.files.guest (first_at u.files) (λ f. length (history_at u.files f)) s t h k all ls n call line inv.rest.files.guest inv.rest.map.count inv.rest.files.firsts inv.idle.sizes e.rest c.requires.calls inv.idle.holds inv.followed number at inv.run e.tells);
+      fair = λ alone. rw longer
+          (step_fair ranges s t h k all ls n call line (alone_after u s inv.rest alone) inv.rest.map.count e.rest inv.idle.holds inv.followed number at e.tells (inv.fair alone));
+      printable = rw longer (all_push IsPrintableNumbered ls numbered inv.printable (record { call = omega arith; line = e.printable }));
     }
-
-pub returns-clause-run : goal.returns-clause-run
-returns-clause-run g c =
-    let u = stand (g.W.Wire.wire c.args.guest.now.dax.driver.wire) (g.F.FileBoard.board c.args.guest.now.dax.files) (g.R.MapBoard.map c.args.guest.now.dax.ranges) in
-    let s = stand (g.W.Wire.wire c.loop-call.guest.dax.driver.wire) (g.F.FileBoard.board c.loop-call.guest.dax.files) (g.R.MapBoard.map c.loop-call.guest.dax.ranges) in
-    let all = c.args.calls.now in
-    let i : c.loop-call.call-index ≡ length all = omega arith in
-    subst (λ (cs : List Call). IsRunFrom u.files.guest (range_count u.map) (first_at u.files) (λ f. length (history_at u.files f)) (history_at s.files) (log_at s.map) cs c.loop-call.lines) (ap (λ (n : ℕ). take n all) i ∙ take-length all) c.loop-call.invariant.run
