@@ -1,40 +1,27 @@
 -- What the requests of a run make of a live wire, each of which succeeds.
-use Rattle.std.proofs.Common.{◌≡◌, ◌∙◌, ap, refl, subst, arith, ℕ, ◌+◌, ◌-◌, ◌<◌, ◌≤◌, ◌^◌, Bool, true, false, List, length, take, drop, Option, Some, None, is_some, slice_set, Result, Ok, Err, if◌then◌else◌}
-use Rattle.std.proofs.lemmas.Grind.{common_steps}
-use Rattle.plain_file.specs.declared.operations.Op.TheVariants as ops
+use Rattle.std.proofs.Common.{◌≡◌, ◌∙◌, ap, refl, subst, arith, ℕ, ◌≤◌, ◌^◌, Bool, true, List, Option, Some, None, is_some, slice_set, Result, Ok, Err, if◌then◌else◌}
 use Rattle.plain_file.specs.File.{max_file, answer}
-use Rattle.plain_file.specs.Limits.{max_transfer}
-use Rattle.plain_file.specs.Board.{file_at, bytes_now, size_of, with_note, applied, file_answer}
-use Rattle.fuse_codec.specs.Grammar.{kind_of}
-use Rattle.fuse_codec.specs.Opcodes.{reply_form}
-use Rattle.fuse_codec.specs.Replies.{form_of, reply_parts, is_reply}
+use Rattle.plain_file.specs.Board.{file_at, size_of, with_note}
+use Rattle.fuse_codec.specs.Replies.{form_of}
 use Rattle.fuse_codec.specs.declared.messages.Request.TheVariants as asks
 use Rattle.fuse_codec.specs.declared.replies.Reply.{Reply}
 use Rattle.fuse_codec.specs.declared.replies.Reply.TheVariants as replies
-use Rattle.fuse_wire.specs.Layout.{FitsParts}
-use Rattle.fuse_wire.specs.Attributes.{attr_rec, attr_out}
-use Rattle.fuse_wire.specs.declared.attributes.AttrOut.{AttrOut}
 use Rattle.fuse_wire.specs.declared.attributes.EntryOut.{EntryOut}
-use Rattle.fuse_wire.specs.declared.attributes.GetattrIn.{GetattrIn}
 use Rattle.fuse_wire.specs.declared.inits.InitIn.{InitIn}
 use Rattle.fuse_wire.specs.declared.inits.InitOut.{InitOut}
 use Rattle.fuse_wire.specs.declared.opens.OpenOut.{OpenOut}
-use Rattle.fuse_wire.specs.declared.records.WriteOut.{WriteOut}
-use Rattle.fuse_device.specs.State.{World, is_made, made_at, named, begun, looked_up, with_open}
+use Rattle.fuse_device.specs.State.{World, is_made, named, begun, looked_up, with_open}
 use Rattle.fuse_device.specs.Checks.{is_known, may_open}
-use Rattle.fuse_device.specs.Requests.{seen_size, answered, getattr, size_in, is_init, is_forget}
-use Rattle.fuse_device.specs.Entries.{session_flags, init_out_with, file_attr, attr_out_of, entry_of, open_out_of}
-use Rattle.fuse_device.specs.OpenFiles.{HasOpenFile, Succeeds}
-use Rattle.fuse_device.proofs.Allowed.{may_apply_size}
-use Rattle.fuse_device.proofs.OpenHandles.{is_file, is_known-open, init_succeeds, lookup_succeeds, open_succeeds, read_succeeds, write_succeeds}
-use Rattle.guest_wire.specs.declared.driver.FileRef.{FileRef}
+use Rattle.fuse_device.specs.Requests.{seen_size}
+use Rattle.fuse_device.specs.Entries.{session_flags, init_out_with, entry_of, open_out_of}
+use Rattle.fuse_device.proofs.OpenHandles.{is_file, init_succeeds, lookup_succeeds, open_succeeds}
 use Rattle.guest_wire.specs.Keeps.{KeepsBoards}
 use Rattle.guest_wire.specs.declared.wires.WireError.{WireError}
 use Rattle.guest_wire.specs.declared.wires.WireRefusal.{WireRefusal}
 use Rattle.guest_wire.specs.declared.wires.WireRefusal.TheVariants as refusals
 use Rattle.guest_wire.specs.Wires.{WireView, Boards, Sent, world_at, KeepsWire}
-use Rattle.guest_wire.specs.Requests.{message, init_request, open_request, getattr_request, read_request, write_request, write_at}
-use Rattle.guest_wire.specs.Answers.{Answers, Succeeded, SaysOpened, SaysWrote}
+use Rattle.guest_wire.specs.Requests.{message, init_request, open_request}
+use Rattle.guest_wire.specs.Answers.{Answers, Succeeded, SaysOpened}
 use Rattle.guest_wire.proofs.Hearing.{succeeded}
 use Rattle.guest_wire.proofs.Serving.{IsServable-answer}
 use Rattle.daxrun.specs.Requests.{IsLive, IsDoneOrMemory}

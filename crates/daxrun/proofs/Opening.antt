@@ -1,5 +1,5 @@
 -- Files of different names are found and opened one after another.
-use Rattle.std.proofs.Common.{◌≡◌, ◌∙◌, ap, sym, subst, refl, ℕ, zero, suc, ◌+◌, ◌-◌, ◌<◌, ◌≤◌, ◌^◌, min, nat_lt, Bool, true, false, true≢false, ⊎_elim, List, [], ◌∷◌, ◌++◌, length, map, take, replicate, get_or, get_or-set_same, slice_get, slice_set, slice_index_or, Option, Some, None, arith, length-append, if◌then◌else◌, position}
+use Rattle.std.proofs.Common.{◌≡◌, ◌∙◌, ap, sym, subst, refl, ℕ, zero, suc, ◌+◌, ◌-◌, ◌<◌, ◌≤◌, ◌^◌, min, nat_lt, Bool, true, false, true≢false, ⊎_elim, List, [], ◌∷◌, ◌++◌, length, map, replicate, get_or, get_or-set_same, slice_get, slice_set, slice_index_or, Option, Some, None, arith, length-append, if◌then◌else◌, position}
 use Rattle.std.specs.List.{AllByRecursion, IsDistinct, list_any, position_or_len}
 use Rattle.std.specs.Str.{bytes_eq}
 use Rattle.std.proofs.lemmas.Bool.{lt-ltb}
@@ -11,7 +11,6 @@ use Rattle.std.proofs.lemmas.Slice.Eq.{bytes_eq-Decides}
 use Rattle.plain_file.specs.declared.operations.First.{First}
 use Rattle.plain_file.specs.File.{max_file}
 use Rattle.plain_file.specs.History.{bytes, after_all}
-use Rattle.plain_file.specs.Limits.{max_files}
 use Rattle.plain_file.specs.Plain.{new_board, new_file}
 use Rattle.plain_file.specs.Board.{BoardView, no_file, file_at, bytes_now, size_of}
 use Rattle.fuse_device.specs.State as state

@@ -5,7 +5,9 @@ use Rattle.std.specs.Str.{bytes_eq}
 use Rattle.std.specs.Io.KnownBytes.{Appends, Keeps}
 use Rattle.plain_file.specs.Counts.{Rose}
 use Rattle.plain_text.specs.Printed.{line}
+use Rattle.dax_script.specs.declared.scripts.Call.{Call}
 use Rattle.dax_script.specs.declared.scripts.Script.{Script}
+use Rattle.dax_script.specs.Asks.{hold_places}
 use Rattle.program_io.specs.declared.statuses.Status.{Status}
 use Rattle.program_io.specs.declared.statuses.Status.TheVariants as statuses
 use Rattle.dax_script.specs.Whys.{why_word}
@@ -14,9 +16,10 @@ use Rattle.dax_script.specs.ScriptText.{BadLine, script_of}
 use Rattle.transcript_text.specs.declared.transcripts.GuestPart.{GuestPart}
 use Rattle.transcript_text.specs.declared.transcripts.Transcript.{Transcript}
 use Rattle.dax_audit.specs.Legal.{IsLegal}
+use Rattle.dax_audit.specs.Tables.{log_in}
 use Rattle.transcript_text.specs.TranscriptText.{text_of}
 use Rattle.transcript_text.specs.TranscriptReading.{transcript_of}
-use Rattle.guest_run.specs.Working.{AllDone}
+use Rattle.guest_run.specs.Working.{AllDone, IsFair}
 use Rattle.daxrun.specs.Carried.{is_carried_out}
 
 -- the most bytes that are read
@@ -52,15 +55,20 @@ refusal (Err bad) = Some (refused_line bad)
 
 -- ---- what is due
 
--- each line of each guest says that its call is done
-pub record AllLinesDone (t : Transcript) : Type 0 where
-  pub each : (g : ℕ) (part : GuestPart) → slice_get t.guests g ≡ Some part → AllDone part.lines
+-- The lines of each guest are fair: a truncation is refused exactly for the guest's own holds on the file, and where no range could be taken, its own holds have them.
+pub record AreFair (script : Script) (t : Transcript) : Type 0 where
+  pub each : (g : ℕ) (cs : List Call) (part : GuestPart) → slice_get script.guests g ≡ Some cs → slice_get t.guests g ≡ Some part → IsFair script.ranges (log_in t) cs part.lines
 
--- The text is that of a transcript which is legal for the script, and it is read as this transcript. Each call of a guest that is alone is done.
+-- each line says that its call is done, of each guest that asks for no hold
+pub record AllLinesDone (script : Script) (t : Transcript) : Type 0 where
+  pub each : (g : ℕ) (cs : List Call) (part : GuestPart) → slice_get script.guests g ≡ Some cs → slice_get t.guests g ≡ Some part → hold_places 0 cs ≡ [] → AllDone part.lines
+
+-- The text is that of a transcript which is legal for the script, and it is read as this transcript. A call of a guest is done unless its own holds stand against it.
 pub record IsTextOf (script : Script) (text : List ℕ) : Type 0 where
   pub transcript : Transcript
   pub legal : IsLegal script transcript
-  pub done : AllLinesDone transcript
+  pub fair : AreFair script transcript
+  pub done : AllLinesDone script transcript
   pub writes : text ≡ text_of transcript
   pub determined : transcript_of text ≡ Ok transcript
 

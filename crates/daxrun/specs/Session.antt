@@ -1,5 +1,5 @@
 -- A session: its files are found and opened, one after another.
-use Rattle.std.specs.Prelude.{◌≡◌, ℕ, ◌+◌, ◌≤◌, true, List, length, map, replicate, slice_get, Some}
+use Rattle.std.specs.Prelude.{◌≡◌, ℕ, ◌+◌, ◌≤◌, true, List, [], length, map, replicate, slice_get, Some}
 use Rattle.plain_file.specs.File.{max_file}
 use Rattle.plain_file.specs.declared.operations.First.{First}
 use Rattle.plain_file.specs.Board.{BoardView, file_at, size_of}
@@ -15,8 +15,10 @@ use Rattle.plain_file.specs.declared.operations.Entry.{Entry}
 use Rattle.page_map.specs.declared.ranges.LogEntry.{LogEntry}
 use Rattle.dax_script.specs.declared.scripts.Call.{Call}
 use Rattle.dax_script.specs.declared.scripts.Script.{Script}
+use Rattle.dax_script.specs.Asks.{hold_places}
 use Rattle.transcript_text.specs.declared.transcripts.GuestPart.{GuestPart}
 use Rattle.guest_run.specs.Runs.{IsPart}
+use Rattle.guest_run.specs.Working.{IsFair, AllDone}
 
 -- a session over files of these names, of which so many were opened
 pub record IsSession (names : List (List ℕ)) (count : ℕ) (s : State) : Type 0 where
@@ -57,3 +59,11 @@ firsts_of fs = map (λ f. f.first) fs
 -- the parts of all guests of a script are those of runs
 abbrev pub AreParts : Script → (ℕ → First) → (ℕ → List Entry) → (ℕ → List LogEntry) → List GuestPart → Type 0
 AreParts s first h logs parts = (g : ℕ) (cs : List Call) (part : GuestPart) → slice_get s.guests g ≡ Some cs → slice_get parts g ≡ Some part → IsPart s.ranges first h logs g cs part
+
+-- each guest's lines are fair, in these placement logs
+abbrev pub AreFairParts : Script → (ℕ → List LogEntry) → List GuestPart → Type 0
+AreFairParts s logs parts = (g : ℕ) (cs : List Call) (part : GuestPart) → slice_get s.guests g ≡ Some cs → slice_get parts g ≡ Some part → IsFair s.ranges logs cs part.lines
+
+-- each line of a guest that asks for no hold says that its call is done
+abbrev pub AreDoneParts : List (List Call) → List GuestPart → Type 0
+AreDoneParts guests parts = (g : ℕ) (cs : List Call) (part : GuestPart) → slice_get guests g ≡ Some cs → slice_get parts g ≡ Some part → hold_places 0 cs ≡ [] → AllDone part.lines

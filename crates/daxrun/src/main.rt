@@ -10,6 +10,8 @@
 #![tactic(auto)]
 
 #[cfg(test)]
+mod hold_tests;
+#[cfg(test)]
 mod play_tests;
 mod plays;
 mod requests;

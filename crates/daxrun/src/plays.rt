@@ -15,12 +15,13 @@ ghost use Rattle.dax_script.specs.ScriptWords.{is_script_name};
 ghost use Rattle.transcript_text.specs.declared.transcripts.GuestPart.{GuestPart};
 ghost use Rattle.dax_audit.specs.Legal.{IsLegal};
 ghost use Rattle.transcript_text.specs.TranscriptReading.{IsPrintable, IsPrintableEntry, IsPrintableFile, IsPrintableGuest, IsPrintableLog, IsPrintableWay};
-ghost use Rattle.guest_io.specs.Going.{LeavesAll};
+ghost use Rattle.guest_io.specs.Requests.{IsHome};
+ghost use Rattle.guest_io.specs.Holds.{LeavesRest, no_holds};
 ghost use Rattle.guest_run.specs.Runs.{IsPart, entry_line, file_part, parts_from};
-ghost use Rattle.guest_run.specs.Working.{IsIdle, IsAlone, AllDone, first_at, history_at};
+ghost use Rattle.guest_run.specs.Working.{IsIdle, IsAlone, IsFair, first_at, history_at};
 ghost use Rattle.daxrun.specs.Carried.{names_of, AreFiles, AreGuests, AreRanges, IsPlayable};
-ghost use Rattle.daxrun.specs.Run.{AllLinesDone};
-ghost use Rattle.daxrun.specs.Session.{IsOpened, AreParts, firsts_of};
+ghost use Rattle.daxrun.specs.Run.{AreFair, AllLinesDone};
+ghost use Rattle.daxrun.specs.Session.{IsOpened, AreParts, AreFairParts, AreDoneParts, firsts_of};
 
 use crate::sessions::{board_of, end_session, opening_board, start_session};
 use daemon_core::Daemon;
@@ -51,7 +52,8 @@ pub fn play<R: Wait>(
     requires playable { IsPlayable script.now }
     requires new { daemon.old ≡ new_state (range_pages * script.now.ranges) (names_of script.now.files) }
     ensures legal { IfOk result (IsLegal script.now) }
-    ensures done { IfOk result AllLinesDone }
+    ensures fair { IfOk result (AreFair script.now) }
+    ensures done { IfOk result (AllLinesDone script.now) }
     ensures printable { IfOk result IsPrintable }
 {
     let lines = script.files.as_slice();
@@ -105,13 +107,14 @@ where
     requires playable { IsPlayable script.now }
     requires count { length opened.now ≡ length script.now.files }
     requires opened { (b : Boards) × IsOpened (names_of script.now.files) opened.now (W.wire client.wire) b × (length b.map.table ≡ range_pages * script.now.ranges) }
-    ensures idle { IfOk result (λ p. IsIdle (stand (W.wire p.client.wire) p.files p.ranges) opened.now) }
+    ensures home { IfOk result (λ p. IsHome (stand (W.wire p.client.wire) p.files p.ranges) opened.now) }
     ensures wire { IfOk result (λ p. KeepsWire (W.wire client.wire) (W.wire p.client.wire)) }
     ensures pages { IfOk result (λ p. length p.ranges.table ≡ range_pages * script.now.ranges) }
     ensures ranges { IfOk result (λ p. range_count p.ranges ≡ script.now.ranges) }
     ensures count { IfOk result (λ p. length p.guests ≡ length script.now.guests) }
     ensures parts { IfOk result (λ p. AreParts script.now (first_at (new_board 0 (firsts_of script.now.files))) (history_at p.files) (log_at p.ranges) p.guests) }
-    ensures done { IfOk result (λ p. (g : ℕ) (part : GuestPart) → slice_get p.guests g ≡ Some part → AllDone part.lines) }
+    ensures fair { IfOk result (λ p. AreFairParts script.now (log_at p.ranges) p.guests) }
+    ensures done { IfOk result (λ p. AreDoneParts script.now.guests p.guests) }
     ensures printable { IfOk result (λ p. AllByRecursion IsPrintableGuest p.guests) }
     ensures number { IfOk result (λ p. p.files.guest ≡ 0) }
     ensures known { IfOk result (λ p. (f n : ℕ) (e : Entry) → slice_get (history_at p.files f) n ≡ Some e → 0 < length script.now.guests) }
@@ -144,6 +147,7 @@ where
     ensures files { IfOk result (λ g. g.dax.files ≡ new_board 0 (firsts_of files.now)) }
     ensures ranges { IfOk result (λ g. g.dax.ranges ≡ new_ranges ranges (length files.now) 0) }
     ensures refs { IfOk result (λ g. g.dax.refs ≡ opened.now) }
+    ensures holds { IfOk result (λ g. g.holds ≡ no_holds) }
 {
     let board = board_of(alloc, files)?;
     let ranges = PlainRanges::new(alloc, ranges, files.len() as u32, 0)?;
@@ -160,16 +164,20 @@ fn play_guests<R: Wait, W>(
 ) -> Result<List<GuestPart>, Memory>
 where
     W: Wire<PlainFiles, PlainRanges>,
-    requires idle { IsIdle (stand (W.wire guest.old.dax.driver.wire) guest.old.dax.files guest.old.dax.ranges) guest.old.dax.refs }
-    requires guests { AreGuests (length guest.old.dax.refs) guests.now }
+    requires idle { IsIdle (stand (W.wire guest.old.dax.driver.wire) guest.old.dax.files guest.old.dax.ranges) guest.old.dax.refs guest.old.holds }
+    requires asked { guest.old.holds.asked ≡ 0 }
+    requires plain { guest.old.dax.files.plain ≡ true }
+    requires guests { AreGuests (length guest.old.dax.refs) (range_count guest.old.dax.ranges) guests.now }
     requires number { guest.old.dax.files.guest ≡ 0 }
     requires fresh { (f : ℕ) → history_at guest.old.dax.files f ≡ [] }
-    ensures idle { IsIdle (stand (W.wire guest.new.dax.driver.wire) guest.new.dax.files guest.new.dax.ranges) guest.new.dax.refs }
-    ensures leaves { LeavesAll (stand (W.wire guest.old.dax.driver.wire) guest.old.dax.files guest.old.dax.ranges) (stand (W.wire guest.new.dax.driver.wire) guest.new.dax.files guest.new.dax.ranges) }
+    ensures idle { IsIdle (stand (W.wire guest.new.dax.driver.wire) guest.new.dax.files guest.new.dax.ranges) guest.new.dax.refs guest.new.holds }
+    ensures rest { LeavesRest (stand (W.wire guest.old.dax.driver.wire) guest.old.dax.files guest.old.dax.ranges) (stand (W.wire guest.new.dax.driver.wire) guest.new.dax.files guest.new.dax.ranges) }
     ensures count { IfOk result (λ parts. length parts ≡ length guests.now) }
     ensures parts { IfOk result (λ parts. (g : ℕ) (cs : List Call) (part : GuestPart) → slice_get guests.now g ≡ Some cs → slice_get parts g ≡ Some part
         → IsPart (range_count guest.old.dax.ranges) (first_at guest.old.dax.files) (history_at guest.new.dax.files) (log_at guest.new.dax.ranges) g cs part) }
-    ensures done { IsAlone guest.old.dax.ranges → IfOk result (λ parts. (g : ℕ) (part : GuestPart) → slice_get parts g ≡ Some part → AllDone part.lines) }
+    ensures fair { IsAlone (stand (W.wire guest.old.dax.driver.wire) guest.old.dax.files guest.old.dax.ranges) → IfOk result (λ parts. (g : ℕ) (cs : List Call) (part : GuestPart) → slice_get guests.now g ≡ Some cs → slice_get parts g ≡ Some part
+        → IsFair (range_count guest.old.dax.ranges) (log_at guest.new.dax.ranges) cs part.lines) }
+    ensures done { IsAlone (stand (W.wire guest.old.dax.driver.wire) guest.old.dax.files guest.old.dax.ranges) → IfOk result (AreDoneParts guests.now) }
     ensures printable { IfOk result (AllByRecursion IsPrintableGuest) }
     ensures known { OnOk result ((f p : ℕ) (e : Entry) → slice_get (history_at guest.new.dax.files f) p ≡ Some e → 0 < length guests.now) }
     ensures refs { guest.new.dax.refs ≡ guest.old.dax.refs }

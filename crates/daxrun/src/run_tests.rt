@@ -14,7 +14,7 @@ pub const HELLO: &str = "ranges 0\nfile a 0\nguest\nwrite a 0 68656c6c6f\nread a
 const HELLO_TOLD: &str =
     "transcript 1\nranges 0\nfile a 0 00\nentry 0 0 req\nentry 0 1 req\nguest 0\n0 done 0 wrote 5\n1 done 1 bytes 68656c6c6f\nend\n";
 
-// Two files, and each call that is carried out.
+// Two files, and each call that needs no hold.
 pub const FOUR: &str =
     "# two files\nranges 0\nbackground 0\nfile a 4 ab\nfile b 0\n\nguest\n size   a \nwrite b 2 0102\nfill a 6 3 7f\nread a 0 16\nread b 0 16\nsize a\nsize b";
 
@@ -92,8 +92,8 @@ pub fn answer_to<R: Wait>(rt: &R, alloc: Global, text: &[u8]) -> Result<(Status,
     )
 }
 
-// The audit's verdict over the texts of a script and of its transcript; None where one of them isn't any.
-fn verdict_on(alloc: Global, script: &[u8], told: &[u8]) -> Result<Option<Verdict>, Memory> {
+/// The audit's verdict over the texts of a script and of its transcript; None where one of them isn't any.
+pub fn verdict_on(alloc: Global, script: &[u8], told: &[u8]) -> Result<Option<Verdict>, Memory> {
     let Ok(script) = parse_script(alloc, script) else {
         return Ok(None);
     };
@@ -222,9 +222,11 @@ fn refuses_texts(rt: HostRuntime) -> Result<(), Fail> {
         ("ranges 0\nguest\nrelease 0\n", "refused line 3 hold\n"),
         ("ranges 2\nbackground 3\n", LATER),
         ("ranges 2\nguest\nguest\n", LATER),
-        ("ranges 2\nfile a 1\nguest\nhold a 0 r\n", LATER),
         ("ranges 0\nguest\nguest\n", LATER),
-        ("ranges 0\nfile a 0\nguest\ntruncate a 0\n", LATER),
+        (
+            "ranges 0\nfile a 0\nguest\nhold a 0 r\n",
+            "refused line 4 window\n",
+        ),
     ] {
         let (status, taken) = answer_to(&rt, rt.alloc(), text.as_bytes())?;
         assert_eq!(rt; status, Status::Refused, "{text}");

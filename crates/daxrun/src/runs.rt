@@ -1,5 +1,4 @@
 ghost use Rattle.std.specs.Prelude.{◌≡◌, ◌≢◌, ◌≤◌, ◌<◌, ◌+◌, ◌++◌, ℕ, List, true, false, Some, None, Ok, length, IfOk, IfSome, OnOk};
-ghost use Rattle.std.specs.List.{list_all};
 ghost use Rattle.std.specs.Io.KnownBytes.{Appends, Keeps, IsAtEnd};
 ghost use Rattle.plain_file.specs.Counts.{Rose};
 ghost use Rattle.program_io.specs.Causes.{AppendsPart, TakesAtMost, buffer};
@@ -9,13 +8,12 @@ ghost use Rattle.dax_script.specs.declared.scripts.Script.{Script};
 ghost use Rattle.dax_script.specs.ScriptText.{BadLine, script_of};
 ghost use Rattle.dax_audit.specs.Legal.{IsLegal};
 ghost use Rattle.transcript_text.specs.TranscriptReading.{IsPrintable, transcript_of};
-ghost use Rattle.guest_run.specs.Working.{is_made_call};
 ghost use Rattle.daxrun.specs.Carried.{is_carried_out, IsPlayable};
-ghost use Rattle.daxrun.specs.Run.{limit, is_script_command, usage_line, refused_line, too_long_line, refusal, AllLinesDone, IsTextOf, IsAnswerTo, IsDue, due_status, Answers};
+ghost use Rattle.daxrun.specs.Run.{limit, is_script_command, usage_line, refused_line, too_long_line, refusal, AreFair, AllLinesDone, IsTextOf, IsAnswerTo, IsDue, due_status, Answers};
 
 use crate::plays::play;
 use crate::sessions::daemon_of;
-use dax_script::{BadScript, Call, Script, Why, parse};
+use dax_script::{BadScript, Script, Why, parse};
 use plain_file::{Blob, List, Memory};
 use plain_text::{put, put_number};
 use program_io::{ReadError, Sink, Source, Status, Word, read_all, write_all};
@@ -32,7 +30,9 @@ const LIMIT: usize = 16_777_216;
 ///
 /// Whatever the input, a run that ends with `Ok` writes one transcript in which every done call
 /// stands once in its file's history, in its guest's order, and every reply is the plain file's at
-/// that place. A run may wait, as the client's wire does. The statuses are found in the order words,
+/// that place. A truncation is refused exactly for the guest's own holds on its file, and no range could be
+/// taken only where the guest's own holds have all of them, or all but one where a call's bytes lie in two
+/// chunks. A run may wait, as the client's wire does. The statuses are found in the order words,
 /// reading, text, run, writing:
 ///
 /// - `Ok`: the source was read to its end, and the whole transcript was taken.
@@ -137,40 +137,12 @@ fn answer_to<R: Wait>(rt: &R, alloc: Global, input: &[u8]) -> Result<(Status, Bl
     }
 }
 
-// Whether a script is carried out: with at most one guest, whose calls read, write or ask for the size, and
-// without turns of a background.
+// Whether a script is carried out: with at most one guest, and without turns of a background.
 #[tactic(auto, unfolding(crate::specs::Carried::is_carried_out))]
 pub(crate) fn is_carried_out(script: &Script) -> bool
     ensures { result ≡ is_carried_out script.now }
 {
-    if script.background != 0 {
-        return false;
-    }
-    match script.guests.as_slice() {
-        [] => true,
-        [calls] => are_carried_calls(calls.as_slice()),
-        _ => false,
-    }
-}
-
-fn are_carried_calls(calls: &[Call]) -> bool
-    ensures { result ≡ list_all is_made_call calls.now }
-{
-    calls.iter().all(|call| is_made_call(call))
-}
-
-#[tactic(auto, unfolding(guest_run::specs::Working::is_made_call))]
-fn is_made_call(call: &Call) -> bool
-    ensures { result ≡ is_made_call call.now }
-{
-    match call {
-        Call::Read { .. } | Call::Write { .. } | Call::Fill { .. } | Call::Size { .. } => true,
-        Call::Truncate { .. }
-        | Call::Hold { .. }
-        | Call::Load { .. }
-        | Call::Store { .. }
-        | Call::Release { .. } => false,
-    }
+    script.background == 0 && script.guests.len() <= 1
 }
 
 // The line that says which line of a text is no line of a script, and why.
@@ -202,7 +174,8 @@ fn transcribe<R: Wait>(rt: &R, alloc: Global, script: &Script) -> Result<Blob, M
 fn play_script<R: Wait>(rt: &R, alloc: Global, script: &Script) -> Result<Transcript, Memory>
     requires { IsPlayable script.now }
     ensures legal { IfOk result (IsLegal script.now) }
-    ensures done { IfOk result AllLinesDone }
+    ensures fair { IfOk result (AreFair script.now) }
+    ensures done { IfOk result (AllLinesDone script.now) }
     ensures printable { IfOk result IsPrintable }
 {
     let mut daemon = daemon_of(alloc, script)?;
