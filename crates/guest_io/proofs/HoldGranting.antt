@@ -111,6 +111,7 @@ granted-hold t file chunk end mode p within small low pin = record {
   entry = pin.entry;
   range = pin.range;
   pinned = pin.pinned.same_file;
+  shown = pin.pinned.same_chunk;
   end = low;
 }
 

@@ -160,12 +160,13 @@ get-front (x ∷ xs) ys (suc i) e h = get-front xs ys i e h
 places-grown : (xs ys : List LogEntry) (entry chunk range : ℕ) → Begins xs ys → PlacesIn xs entry chunk range → PlacesIn ys entry chunk range
 places-grown xs ys entry chunk range (more, e) (mode, h) = (mode, subst (λ (l : List LogEntry). slice_get l entry ≡ Some (entries.Place chunk range mode)) (sym e) (get-front xs more entry (entries.Place chunk range mode) h))
 
--- what holds rest on: as many files and ranges, what was seen of logs, and which files the pinned ranges show
+-- what holds rest on: as many files and ranges, what was seen of logs, and which chunks the pinned ranges show
 pub record Rests (s t : Stand) : Type 0 where
   pub files : length t.files.files ≡ length s.files.files
   pub count : range_count t.map ≡ range_count s.map
   pub logs : (file : ℕ) → Begins (log_at s.map file) (log_at t.map file)
   pub pinned : (range : ℕ) → 0 < pins_on s.map range → (pinned_in t.map range).file ≡ (pinned_in s.map range).file
+  pub shown : (range : ℕ) → 0 < pins_on s.map range → (pinned_in t.map range).chunk ≡ (pinned_in s.map range).chunk
 
 pub IsHold-rests : (s t : Stand) (g : Granted) → Rests s t → 0 < pins_on s.map g.pinned.range → IsHold s g → IsHold t g
 IsHold-rests s t g k had x = record {
@@ -176,11 +177,12 @@ IsHold-rests s t g k had x = record {
   entry = places-grown (log_at s.map g.file) (log_at t.map g.file) g.pinned.through.entry g.chunk g.pinned.range (k.logs g.file) x.entry;
   range = subst (λ n. g.pinned.range < n) (sym k.count) x.range;
   pinned = k.pinned g.pinned.range had ∙ x.pinned;
+  shown = k.shown g.pinned.range had ∙ x.shown;
   end = x.end;
 }
 
 pub Rests-map : (s t : Stand) → length t.files.files ≡ length s.files.files → KeepsMap s.map t.map → Rests s t
-Rests-map s t files k = record { files = files; count = k.count; logs = k.logs; pinned = λ range had. (k.pinned range had).same_file }
+Rests-map s t files k = record { files = files; count = k.count; logs = k.logs; pinned = λ range had. (k.pinned range had).same_file; shown = λ range had. (k.pinned range had).same_chunk }
 
 -- the same is in hand, and what holds rest on stays
 pub HasHolds-rests : (s t : Stand) (h : Holds) → Rests s t → t.files.hands.leases ≡ s.files.hands.leases → t.map.hands.pins ≡ s.map.hands.pins → HasHolds s h → HasHolds t h

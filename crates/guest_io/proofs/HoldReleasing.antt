@@ -49,6 +49,7 @@ module _ (s : Stand) (h : Holds) (n : ℕ) (g : Granted) (x : HasHolds s h) (e :
     count = length-set s.map.hands.pins g.pinned.range (pins_on s.map g.pinned.range - 1);
     logs = λ file. Begins-same (log_at s.map file);
     pinned = λ range had. refl;
+    shown = λ range had. refl;
   }
 
   pub HasHolds-back : HasHolds (given_back s g) (released_one h n)

@@ -15,7 +15,7 @@ use Rattle.page_map.specs.Logs.{placed_at}
 use Rattle.range_tree.specs.Ranges.{range_count, unpinned}
 use Rattle.guest_wire.specs.Wires.{WireView, KeepsWire}
 use Rattle.guest_wire.specs.Keeps.{Begins}
-use Rattle.guest_dax.specs.Stands.{Stand, Keeps}
+use Rattle.guest_dax.specs.Stands.{Stand, Keeps, KeepsMap}
 use Rattle.guest_dax.specs.Looks.{NoLooks, Blocks, AllBlocked, looks_from}
 use Rattle.guest_dax.specs.Pinning.{with_one}
 use Rattle.guest_dax.specs.Reclaims.{Caused}
@@ -29,7 +29,7 @@ use Rattle.guest_io.specs.declared.calls.Refusal.{Refusal}
 use Rattle.guest_io.specs.declared.calls.Refusal.TheVariants as refusals
 use Rattle.guest_io.specs.declared.pins.Pins.{Pins}
 use Rattle.guest_io.specs.Calls.{Directs, KeepsFloor, first_chunk, last_chunk}
-use Rattle.guest_io.specs.Chunks.{AppliesDirect, Gets, StaysRounds, IsUnplaced, way_of, with_all, without_all, more_on, IsGivenBack}
+use Rattle.guest_io.specs.Chunks.{AppliesDirect, Gets, StaysRounds, IsUnplaced, IsUnpinned, way_of, with_all, without_all, more_on, IsGivenBack}
 use Rattle.guest_io.specs.Windows.{GetsSecond, GetsAll, HasAll, CoversBy, GoesThrough, IsOfDax}
 use Rattle.guest_io.specs.Requests.{IsUndone}
 use Rattle.guest_io.specs.Going.{StaysBoard, LeavesAll, KeepsRounds, one_more_pin}
@@ -63,11 +63,17 @@ all-blocked u v w x e g o looks h range within =
 begins-longer : (xs ys : List LogEntry) → Begins xs ys → length xs ≤ length ys
 begins-longer xs ys (more, e) = let n : length ys ≡ length xs + length more = ap length e ∙ grind (arith, common_steps) in omega (arith, n)
 
-unplaced-after : (s t u w : MapView) (file chunk : ℕ) → Begins (log_at s file) (log_at t file) → w.ranges.logs ≡ u.ranges.logs → IsUnplaced t file chunk u → IsUnplaced s file chunk w
-unplaced-after s t u w file chunk b logs (n, low, high, none) =
-    let longer = begins-longer (log_at s file) (log_at t file) b in
+unpinned-before : (s t : MapView) (file chunk : ℕ) → KeepsMap s t → IsUnpinned t file chunk → IsUnpinned s file chunk
+unpinned-before s t file chunk k none range had on shows =
+    let more = k.pins range in
+    let same = k.pinned range had in
+    none range (omega (arith, had, more)) (same.same_file ∙ on) (same.same_chunk ∙ shows)
+
+unplaced-after : (s t u w : MapView) (file chunk : ℕ) → KeepsMap s t → w.ranges.logs ≡ u.ranges.logs → IsUnplaced t file chunk u → IsUnplaced s file chunk w
+unplaced-after s t u w file chunk k logs (n, low, high, none, unpinned) =
+    let longer = begins-longer (log_at s file) (log_at t file) (k.logs file) in
     let same : log_at w file ≡ log_at u file = ap (λ (ls : List (List LogEntry)). get_or ls file []) logs in
-    (n, omega (arith, low, longer), subst (λ (l : List LogEntry). n ≤ length l) (sym same) high, ap (λ (l : List LogEntry). placed_at (take n l) chunk) same ∙ none)
+    (n, omega (arith, low, longer), subst (λ (l : List LogEntry). n ≤ length l) (sym same) high, ap (λ (l : List LogEntry). placed_at (take n l) chunk) same ∙ none, unpinned-before s t file chunk k unpinned)
 
 -- ---- one chunk
 
@@ -140,7 +146,7 @@ GetsAll-second s t u file off len chunk mode p (Err (dax.Busy looked)) some is t
         inr (
           two,
           (p.range, all-blocked (one_more_pin s.map p.range) t.map m u.map more k.map.guest k.map.others same blocked),
-          subst (λ c. IsUnplaced s.map file c u.map) is (unplaced-after s.map t.map m u.map file chunk (k.map.logs file) (ap (λ (x : MapView). x.ranges.logs) un) unplaced),
+          subst (λ c. IsUnplaced s.map file c u.map) is (unplaced-after s.map t.map m u.map file chunk k.map (ap (λ (x : MapView). x.ranges.logs) un) unplaced),
         ),
       ),
     )

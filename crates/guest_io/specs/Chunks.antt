@@ -27,9 +27,13 @@ AppliesDirect old file call way op (Err e) new = IsUndone old file new
 
 -- ---- one chunk
 
--- the chunk isn't placed in the log as it was seen at some moment in between
+-- the board has no pin on a range that it knows to show this chunk of the file
+abbrev pub IsUnpinned : MapView → ℕ → ℕ → Type 0
+IsUnpinned v file chunk = (range : ℕ) → 0 < pins_on v range → (pinned_in v range).file ≡ file → (pinned_in v range).chunk ≡ chunk → ⊥
+
+-- The chunk isn't placed in the log as it was seen at some moment in between, and so the board has no pin on it.
 abbrev pub IsUnplaced : MapView → ℕ → ℕ → MapView → Type 0
-IsUnplaced old file chunk new = (n : ℕ) × (length (log_at old file) ≤ n) × (n ≤ length (log_at new file)) × (placed_at (take n (log_at new file)) chunk ≡ None)
+IsUnplaced old file chunk new = (n : ℕ) × (length (log_at old file) ≤ n) × (n ≤ length (log_at new file)) × (placed_at (take n (log_at new file)) chunk ≡ None) × IsUnpinned old file chunk
 
 -- What getting a chunk answers: a pin; or why not. `Busy` shows each range moving or pinned, with the pins that the board had before; then the chunk isn't placed in the log as it was seen in this call.
 abbrev pub Gets : Stand → ℕ → ℕ → Mode → Result Pinned DaxRefusal → Stand → Type 0

@@ -55,7 +55,7 @@ pins_of range [] = 0
 pins_of range (None ∷ gs) = pins_of range gs
 pins_of range (Some g ∷ gs) = (if g.pinned.range == range then 1 else 0) + pins_of range gs
 
--- A granted hold's pair is live for its chunk and its mode, its entry places the chunk in the hold's range, and the range is known to show its file.
+-- A granted hold's pair is live for its chunk and its mode, its entry places the chunk in the hold's range, and the range is known to show the chunk.
 pub record IsHold (s : Stand) (g : Granted) : Type 0 where
   pub file : g.file < length s.files.files
   pub chunk : g.chunk < 32
@@ -64,6 +64,7 @@ pub record IsHold (s : Stand) (g : Granted) : Type 0 where
   pub entry : PlacesIn (log_at s.map g.file) g.pinned.through.entry g.chunk g.pinned.range
   pub range : g.pinned.range < range_count s.map
   pub pinned : (pinned_in s.map g.pinned.range).file ≡ g.file
+  pub shown : (pinned_in s.map g.pinned.range).chunk ≡ g.chunk
   pub end : g.end ≤ range_size * (g.chunk + 1)
 
 -- A guest has its holds, and nothing else is pinned or leased: one pin and one lease each.

@@ -68,7 +68,7 @@ where
     {
         match self.dax.pin_chunk(rt, alloc, file, chunk, mode) {
             Ok(Some(pinned)) => return Ok(pinned),
-            Ok(None) => {}
+            Ok(None) => self.dax.ranges.sound_ranges(),
             Err(refusal) => return Err(refusal),
         }
         match self.dax.acquire(rt, alloc) {

@@ -17,7 +17,7 @@ returns-in-Err-acquire-clause-gets g c =
     let t = stand (g.W.Wire.wire c.pin_chunk.new.self.driver.wire) (g.F.FileBoard.board c.pin_chunk.new.self.files) (g.R.MapBoard.map c.pin_chunk.new.self.ranges) in
     let u = stand (g.W.Wire.wire c.acquire.new.self.driver.wire) (g.F.FileBoard.board c.acquire.new.self.files) (g.R.MapBoard.map c.acquire.new.self.ranges) in
     let (h, none) = rw c.in-Ok-None.field-0-is at c.in-Ok-None.ensures.pins in
-    Gets-refused s t u c.args.file c.args.chunk c.args.mode c.in-Err-acquire.refusal c.pin_chunk.ensures.keeps h none c.acquire.ensures.keeps c.in-Err-acquire.ensures.acquires
+    Gets-refused s t u c.args.file c.args.chunk c.args.mode c.in-Err-acquire.refusal c.pin_chunk.ensures.keeps h none c.sound_ranges.ensures c.acquire.ensures.keeps c.in-Err-acquire.ensures.acquires
 
 pub returns-in-Ok-clause-rounds : goal.returns-in-Ok-clause-rounds
 returns-in-Ok-clause-rounds g c =
