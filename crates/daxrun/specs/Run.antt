@@ -55,7 +55,7 @@ refusal (Err bad) = Some (refused_line bad)
 
 -- ---- what is due
 
--- The lines of each guest are fair: a truncation is refused exactly for the guest's own holds on the file, and where no range could be taken, its own holds have them.
+-- The lines of each guest are fair: a truncation is refused exactly for the guest's own holds on the file, and where no range could be taken, its own holds have them, and none is on a chunk that the call needs.
 pub record AreFair (script : Script) (t : Transcript) : Type 0 where
   pub each : (g : ℕ) (cs : List Call) (part : GuestPart) → slice_get script.guests g ≡ Some cs → slice_get t.guests g ≡ Some part → IsFair script.ranges (log_in t) cs part.lines
 

@@ -1,5 +1,5 @@
 -- What comes of a guest's calls over an honest wire.
-use Rattle.std.proofs.Common.{◌≡◌, ◌≢◌, ◌∙◌, ap, sym, subst, refl, ℕ, zero, suc, ◌+◌, ◌*◌, ◌<◌, true, true≢false, List, [], ◌∷◌, ◌++◌, length, get_or, slice_get, slice_set, replicate, Some, None, Result, Ok, Err, arith}
+use Rattle.std.proofs.Common.{◌≡◌, ◌≢◌, ◌∙◌, ap, sym, subst, refl, ℕ, zero, suc, ◌+◌, ◌*◌, ◌<◌, true, true≢false, List, [], ◌∷◌, ◌++◌, length, get_or, slice_get, slice_set, replicate, Some, None, Result, Ok, Err, arith, ◌⊎◌, ⊎_elim}
 use Rattle.std.specs.Prelude.{All}
 use Rattle.std.proofs.lemmas.List.{append-nil}
 use Rattle.std.proofs.lemmas.Option.{slice_get-get_or}
@@ -38,8 +38,8 @@ use Rattle.guest_io.specs.Truncates.{IsBarred, Truncates}
 use Rattle.guest_io.specs.Holds.{HasHolds, SameEntries, granted_at, start_of, loads, stores, AsksHold, AccessesHold, ReleasesHold}
 use Rattle.guest_run.specs.Runs.{GoesOn}
 use Rattle.guest_run.specs.Telling.{letters_of}
-use Rattle.guest_run.specs.Working.{history_at, OnlyOthers, CameBy, CameFrom, Asks, MeetsTwo, after_refusal, IsMade, IsStuck, Tells, Comes, IsToldOf}
-use Rattle.guest_run.proofs.Letters.{busy_count, full_of}
+use Rattle.guest_run.specs.Working.{history_at, OnlyOthers, CameBy, CameFrom, Asks, MeetsTwo, NeedsChunk, after_refusal, IsMade, IsStuck, Tells, Comes, IsToldOf}
+use Rattle.guest_run.proofs.Letters.{Meets, busy_count, full_of}
 
 -- a request leaves the looks as they are
 pub still_no_looks : (v w : MapView) → KeepsPages v w → NoLooks v → NoLooks w
@@ -91,7 +91,7 @@ others_nothing s t same = others_same s.files t.files (λ f. ap (λ (u : Stand).
 
 -- ---- where no range could be taken
 
-pub stuck : (s t : Stand) (h k : Holds) (c : Call) (file off len : ℕ) (looked : List Look) → HasHolds s h → k ≡ after_refusal c h → is_taking c ≡ true → (last_chunk off len ≡ first_chunk off + 1 → MeetsTwo c) → range_count t.map ≡ range_count s.map → OnlyOthers s.files t.files → IsBusy s.map file off len looked t.map → IsSoundRanges t.map → IsStuck s h c (letters_of looked) t k
+pub stuck : (s t : Stand) (h k : Holds) (c : Call) (file off len : ℕ) (looked : List Look) → HasHolds s h → k ≡ after_refusal c h → is_taking c ≡ true → Meets c file off len → range_count t.map ≡ range_count s.map → OnlyOthers s.files t.files → IsBusy s.map file off len looked t.map → IsSoundRanges t.map → IsStuck s h c (letters_of looked) t k
 stuck s t h k c file off len looked has holds takes two count others busy sound = record {
   takes = takes;
   some = busy.0;
@@ -116,7 +116,7 @@ comes_told s t h k n c (Err e) (Ok l) is m = absurd is
 comes_told s t h k n c (Err e) (Err f) is m = subst (λ (x : Refusal). Comes s h n c (Err x) t k) (sym is) m
 
 -- a refusal of a read or a write
-comes_refused : (s t : Stand) (h k : Holds) (n : ℕ) (c : Call) (file off len : ℕ) (op : Op) (e : Refusal) → s.wire.honest ≡ true → HasHolds s h → k ≡ after_refusal c h → is_taking c ≡ true → (last_chunk off len ≡ first_chunk off + 1 → MeetsTwo c) → range_count t.map ≡ range_count s.map → IsRefused s file n op off len e t → Comes s h n c (Err e) t k
+comes_refused : (s t : Stand) (h k : Holds) (n : ℕ) (c : Call) (file off len : ℕ) (op : Op) (e : Refusal) → s.wire.honest ≡ true → HasHolds s h → k ≡ after_refusal c h → is_taking c ≡ true → Meets c file off len → range_count t.map ≡ range_count s.map → IsRefused s file n op off len e t → Comes s h n c (Err e) t k
 comes_refused s t h k n c file off len op (refusals.Busy looked) honest has holds takes two count (busy, undone) = (busy.1, stuck s t h k c file off len looked has holds takes two count (others_undone s.files t.files file (undone honest)) busy)
 comes_refused s t h k n c file off len op (refusals.Leased count) honest has holds takes two same never = absurd never
 comes_refused s t h k n c file off len op (refusals.NoHold hold) honest has holds takes two same never = absurd never
@@ -127,7 +127,7 @@ comes_refused s t h k n c file off len op refusals.WireFault honest has holds ta
 comes_refused s t h k n c file off len op refusals.Memory honest has holds takes two same m = m.0
 
 reads_comes : (s t : Stand) (h k : Holds) (n file off len : ℕ) (answer : Result Done Refusal) → s.wire.honest ≡ true → HasHolds s h → k ≡ h → range_count t.map ≡ range_count s.map → Reads s file n off len answer t → ComesOf s h n (calls.Read file off len) answer t k
-unfolding is_taking is_truncating hold_in Asks CameBy CameFrom MeetsTwo after_refusal
+unfolding is_taking is_truncating hold_in Asks CameBy CameFrom MeetsTwo NeedsChunk after_refusal
 reads_comes s t h k n file off len (Ok d) honest has holds count (looks, (way, is, directs)) = (
   looks,
   record {
@@ -140,10 +140,10 @@ reads_comes s t h k n file off len (Ok d) honest has holds count (looks, (way, i
   },
   holds,
 )
-reads_comes s t h k n file off len (Err e) honest has holds count r = comes_refused s t h k n (calls.Read file off len) file off len (ops.Read off len) e honest has holds refl (λ two. two) count r
+reads_comes s t h k n file off len (Err e) honest has holds count r = comes_refused s t h k n (calls.Read file off len) file off len (ops.Read off len) e honest has holds refl (record { two = λ two. two; needs = λ chunk e. (refl, e) }) count r
 
 writes_comes : (s t : Stand) (h k : Holds) (n file off : ℕ) (bytes : List ℕ) (answer : Result Done Refusal) → s.wire.honest ≡ true → HasHolds s h → k ≡ h → range_count t.map ≡ range_count s.map → Writes s file n off bytes answer t → ComesOf s h n (calls.Write file off bytes) answer t k
-unfolding is_taking is_truncating hold_in Asks CameBy CameFrom MeetsTwo after_refusal
+unfolding is_taking is_truncating hold_in Asks CameBy CameFrom MeetsTwo NeedsChunk after_refusal
 writes_comes s t h k n file off bytes (Ok d) honest has holds count (looks, (way, how)) = (
   looks,
   record {
@@ -156,10 +156,10 @@ writes_comes s t h k n file off bytes (Ok d) honest has holds count (looks, (way
   },
   holds,
 )
-writes_comes s t h k n file off bytes (Err e) honest has holds count r = comes_refused s t h k n (calls.Write file off bytes) file off (length bytes) (ops.Write off bytes) e honest has holds refl (λ two. two) count r
+writes_comes s t h k n file off bytes (Err e) honest has holds count r = comes_refused s t h k n (calls.Write file off bytes) file off (length bytes) (ops.Write off bytes) e honest has holds refl (record { two = λ two. two; needs = λ chunk e. (refl, e) }) count r
 
 fills_comes : (s t : Stand) (h k : Holds) (n file off len byte : ℕ) (answer : Result Done Refusal) → length (replicate len byte) ≡ len → s.wire.honest ≡ true → HasHolds s h → k ≡ h → range_count t.map ≡ range_count s.map → Writes s file n off (replicate len byte) answer t → ComesOf s h n (calls.Fill file off len byte) answer t k
-unfolding is_taking is_truncating hold_in Asks CameBy CameFrom MeetsTwo after_refusal
+unfolding is_taking is_truncating hold_in Asks CameBy CameFrom MeetsTwo NeedsChunk after_refusal
 fills_comes s t h k n file off len byte (Ok d) long honest has holds count (looks, (way, how)) = (
   looks,
   record {
@@ -172,7 +172,7 @@ fills_comes s t h k n file off len byte (Ok d) long honest has holds count (look
   },
   holds,
 )
-fills_comes s t h k n file off len byte (Err e) long honest has holds count r = comes_refused s t h k n (calls.Fill file off len byte) file off (length (replicate len byte)) (ops.Write off (replicate len byte)) e honest has holds refl (λ two. subst (λ m. last_chunk off m ≡ first_chunk off + 1) long two) count r
+fills_comes s t h k n file off len byte (Err e) long honest has holds count r = comes_refused s t h k n (calls.Fill file off len byte) file off (length (replicate len byte)) (ops.Write off (replicate len byte)) e honest has holds refl (record { two = λ two. subst (λ m. last_chunk off m ≡ first_chunk off + 1) long two; needs = λ chunk e. (refl, subst (λ m. (chunk ≡ first_chunk off) ⊎ (chunk ≡ last_chunk off m)) long e) }) count r
 
 sizes_comes : (s t : Stand) (h k : Holds) (n file : ℕ) (answer : Result Done Refusal) → NoLooks t.map → s.wire.honest ≡ true → k ≡ h → Sends s file n ops.Size ways.Req answer t → ComesOf s h n (calls.Size file) answer t k
 unfolding is_truncating hold_in Asks CameBy CameFrom
@@ -313,6 +313,9 @@ stores_comes s t h k n hold off bytes (Err refusals.WireFault) looks holds never
 one_chunk : (chunk : ℕ) → last_chunk (range_size * chunk) range_size ≡ first_chunk (range_size * chunk) + 1 → ⊥
 one_chunk chunk two = absurd (omega arith)
 
+that_chunk : (chunk c : ℕ) → (c ≡ first_chunk (range_size * chunk)) ⊎ (c ≡ last_chunk (range_size * chunk) range_size) → c ≡ chunk
+that_chunk chunk c e = ⊎_elim (λ (x : c ≡ first_chunk (range_size * chunk)). omega (arith, x)) (λ (x : c ≡ last_chunk (range_size * chunk) range_size). omega (arith, x)) e
+
 pub comes_held : (s t : Stand) (h k : Holds) (n file chunk : ℕ) (mode : Mode) (held : Held) (l : Line) → s.files.plain ≡ true → SameEntries s.files t.files → AsksHold s h file chunk mode (Ok held) t k → l ≡ lines.Held held.end held.through → Comes s h n (calls.Hold file chunk mode) (Ok l) t k
 unfolding Tells
 comes_held s t h k n file chunk mode held l plain same (looks, granted) is =
@@ -320,8 +323,8 @@ comes_held s t h k n file chunk mode held l plain same (looks, granted) is =
     (looks, record { file = file; chunk = chunk; mode = mode; asks = refl; plain = plain; granted = granted; others = others_same s.files t.files same.history })
 
 comes_unheld : (s t : Stand) (h k : Holds) (n file chunk : ℕ) (mode : Mode) (e : Refusal) → s.wire.honest ≡ true → HasHolds s h → range_count t.map ≡ range_count s.map → SameEntries s.files t.files → AsksHold s h file chunk mode (Err e) t k → Comes s h n (calls.Hold file chunk mode) (Err e) t k
-unfolding is_taking MeetsTwo after_refusal
-comes_unheld s t h k n file chunk mode (refusals.Busy looked) honest has count same (not, busy) = (busy.1, stuck s t h k (calls.Hold file chunk mode) file (range_size * chunk) range_size looked has not.holds refl (one_chunk chunk) count (others_same s.files t.files same.history) busy)
+unfolding is_taking MeetsTwo NeedsChunk after_refusal
+comes_unheld s t h k n file chunk mode (refusals.Busy looked) honest has count same (not, busy) = (busy.1, stuck s t h k (calls.Hold file chunk mode) file (range_size * chunk) range_size looked has not.holds refl (record { two = one_chunk chunk; needs = λ c e. (refl, that_chunk chunk c e) }) count (others_same s.files t.files same.history) busy)
 comes_unheld s t h k n file chunk mode (refusals.Leased count) honest has c same never = absurd never
 comes_unheld s t h k n file chunk mode (refusals.NoHold hold) honest has c same never = absurd never
 comes_unheld s t h k n file chunk mode (refusals.Past end) honest has c same never = absurd never

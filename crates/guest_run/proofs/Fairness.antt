@@ -1,5 +1,5 @@
 -- One call more of a guest that is alone: what its lines refuse, its own holds have.
-use Rattle.std.proofs.Common.{◌≡◌, ⊎_elim, ◌∙◌, ap, sym, subst, refl, ℕ, zero, suc, ◌+◌, ◌<◌, ◌==◌, ◌&&◌, Bool, true, false, true≢false, List, [], ◌∷◌, ◌++◌, length, take, get_or, slice_get, Option, Some, None, arith, if◌then◌else◌}
+use Rattle.std.proofs.Common.{◌≡◌, ◌≢◌, ⊎_elim, ◌∙◌, ap, sym, subst, refl, ℕ, zero, suc, ◌+◌, ◌<◌, ◌==◌, ◌&&◌, Bool, true, false, true≢false, List, [], ◌∷◌, ◌++◌, length, take, get_or, slice_get, Option, Some, None, arith, if◌then◌else◌}
 use Rattle.std.specs.Prelude.{is_some}
 use Rattle.plain_file.specs.Turns.{leases_on}
 use Rattle.page_map.specs.declared.pages.Mode.{Mode}
@@ -10,9 +10,11 @@ use Rattle.range_tree.specs.Ranges.{range_count}
 use Rattle.dax_script.specs.declared.scripts.Call.{Call}
 use Rattle.dax_script.specs.declared.scripts.Call.TheVariants as calls
 use Rattle.dax_script.specs.Asks.{held_by, hold_in}
+use Rattle.dax_script.specs.declared.asks.Held.{Held as Wanted}
 use Rattle.transcript_text.specs.declared.transcripts.Line.{Line}
 use Rattle.transcript_text.specs.declared.transcripts.Line.TheVariants as lines
 use Rattle.transcript_text.specs.declared.transcripts.Numbered.{Numbered}
+use Rattle.dax_audit.specs.declared.verdicts.Grant.{Grant}
 use Rattle.dax_audit.specs.Guests.{had_grant}
 use Rattle.dax_audit.specs.Rules.{is_taking, is_truncating}
 use Rattle.guest_dax.specs.Stands.{Stand}
@@ -95,7 +97,16 @@ held_range_on logs logs' cs ls ms n range on e r = record {
 }
 
 held_up_on : (ranges : ℕ) (logs logs' : ℕ → List LogEntry) (cs : List Call) (ls ms : List Numbered) (n : ℕ) (c : Call) (letters : List ℕ) → ((f : ℕ) → LogGoesOn (logs f) (logs' f)) → take n ms ≡ take n ls → IsHeldUp ranges logs cs ls n c letters → IsHeldUp ranges logs' cs ms n c letters
-held_up_on ranges logs logs' cs ls ms n c letters on e u = record { pinned = u.pinned; missing = u.missing; two = u.two; each = λ range lt apart. held_range_on logs logs' cs ls ms n range on e (u.each range lt apart) }
+held_up_on ranges logs logs' cs ls ms n c letters on e u = record {
+  pinned = u.pinned;
+  missing = u.missing;
+  two = u.two;
+  each = λ range lt apart. held_range_on logs logs' cs ls ms n range on e (u.each range lt apart);
+  file = u.file;
+  chunk = u.chunk;
+  needs = u.needs;
+  unheld = λ hold held grant by had. u.unheld hold held grant by (subst (λ (ks : List Numbered). Had cs ks n hold grant) e had);
+}
 
 -- the range of a hold
 held_range : (s t : Stand) (h : Holds) (cs : List Call) (ls ms : List Numbered) (hold range : ℕ) (g : Granted) → LeavesRest s t → HasHolds s h → IsFollowed cs ls h → take (length ls) ms ≡ ls → granted_at h hold ≡ Some g → g.pinned.range ≡ range → IsHeldRange (log_at t.map) cs ms (length ls) range
@@ -107,6 +118,16 @@ held_range s t h cs ls ms hold range g rest has f e at is = record {
   had = subst (λ (ks : List Numbered). Had cs ks (length ls) hold (grant_for g)) (sym e) (f.each hold g at).had;
   entry = subst (PlacesIn (log_at t.map g.file) g.pinned.through.entry g.chunk) is (places_on (log_at s.map g.file) (log_at t.map g.file) g.pinned.through.entry g.chunk g.pinned.range (rest.map.logs g.file) (has.each hold g at).entry);
 }
+
+-- a hold that the guest has is granted, so that what no granted hold is on none is on
+not_had : (h : Holds) (cs : List Call) (ls : List Numbered) (file chunk hold : ℕ) (held : Wanted) (grant : Grant) → IsFollowed cs ls h → ((n : ℕ) (g : Granted) → granted_at h n ≡ Some g → g.file ≡ file → g.chunk ≢ chunk) → held_by cs hold ≡ Some held → Had cs ls (length ls) hold grant → held.file ≡ file → held.chunk ≢ chunk
+not_had h cs ls file chunk hold held grant f none by had on is = by_slot (granted_at h hold) refl
+  where
+    by_slot : (o : Option Granted) → granted_at h hold ≡ o → ⊥
+    by_slot None e = none_is grant (sym (f.none hold e) ∙ had)
+    by_slot (Some g) e =
+        let same : wanted_of g ≡ held = some_is (wanted_of g) held (sym (f.each hold g e).by ∙ by) in
+        none hold g e (ap (λ (w : Wanted). w.file) same ∙ on) (ap (λ (w : Wanted). w.chunk) same ∙ is)
 
 -- ---- one more call
 
@@ -146,7 +167,7 @@ module _ (s t : Stand) (h k : Holds) (cs : List Call) (ls : List Numbered) (c : 
   held_up_by ms l letters e is x =
       let stuck : IsStuck s h c letters t k = subst (λ (y : Line). Tells s h (length ls) c y t k) is x in
       let full = stuck.full alone in
-      record { pinned = full.pinned; missing = full.missing; two = full.two; each = λ range lt apart. let y = full.each range lt apart in held_range s t h cs ls ms y.0 range y.1 rest has f e y.2 y.3 }
+      record { pinned = full.pinned; missing = full.missing; two = full.two; each = λ range lt apart. let y = full.each range lt apart in held_range s t h cs ls ms y.0 range y.1 rest has f e y.2 y.3; file = full.file; chunk = full.chunk; needs = full.needs; unheld = λ hold held grant by had. not_had h cs ls full.file full.chunk hold held grant f full.unheld by (subst (λ (ks : List Numbered). Had cs ks (length ls) hold grant) e had) }
 
   fair_more : (l : Line) → IsFair (range_count s.map) (log_at s.map) cs ls → Tells s h (length ls) c l t k → IsFair (range_count s.map) (log_at t.map) cs (ls ++ record { call = length ls; line = l } ∷ [])
   fair_more l fair x =

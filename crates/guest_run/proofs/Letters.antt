@@ -1,5 +1,5 @@
 -- What the looks show where no range could be taken: a letter for each range, and the holds that have them.
-use Rattle.std.proofs.Common.{◌≡◌, ◌≢◌, ⊎_elim, ◌∙◌, ap, sym, refl, subst, ℕ, zero, suc, ◌+◌, ◌<◌, Bool, true, false, true≢false, List, [], ◌∷◌, length, replicate, get_or, get_or-set_other, Option, Some, None, arith, if◌then◌else◌}
+use Rattle.std.proofs.Common.{◌≡◌, ◌≢◌, ◌⊎◌, inl, inr, ⊎_elim, ◌∙◌, ap, sym, refl, subst, ℕ, zero, suc, ◌+◌, ◌<◌, Bool, true, false, true≢false, List, [], ◌∷◌, length, replicate, get_or, get_or-set_other, Option, Some, None, arith, if◌then◌else◌}
 use Rattle.std.specs.Prelude.{IsSome, slice_index_or}
 use Rattle.std.specs.List.{list_all}
 use Rattle.std.proofs.lemmas.Bool.{ne_eqb}
@@ -18,10 +18,12 @@ use Rattle.guest_dax.specs.Looks.{Blocks, IsBlocked, AllBlocked, looks_from}
 use Rattle.guest_io.specs.declared.guest.Granted.{Granted}
 use Rattle.guest_io.specs.declared.guest.Holds.{Holds}
 use Rattle.guest_io.specs.Calls.{last_chunk, first_chunk}
+use Rattle.guest_io.specs.Chunks.{IsUnplaced, IsUnpinned}
 use Rattle.guest_io.specs.Going.{one_more_pin, IsBusy}
+use Rattle.guest_io.proofs.HoldLaws.{pin-had}
 use Rattle.guest_io.specs.Holds.{HasHolds, granted_at, pins_of}
 use Rattle.guest_run.specs.Telling.{letter_of, letters_of}
-use Rattle.guest_run.specs.Working.{IsAlone, IsFull, MeetsTwo}
+use Rattle.guest_run.specs.Working.{IsAlone, IsFull, MeetsTwo, NeedsChunk}
 
 -- ---- letters
 
@@ -112,26 +114,45 @@ held_range s h range holds some = hold_of range h.slots (subst (λ n. 0 < n) (ho
 pins_elsewhere : (v : MapView) (range r : ℕ) → r ≢ range → pins_on (one_more_pin v range) r ≡ pins_on v r
 pins_elsewhere v range r apart = get_or-set_other v.hands.pins range r (pins_on v range + 1) 0 apart
 
+-- what the call needs of a file: whether it needs two chunks, and which
+pub record Meets (c : Call) (file off len : ℕ) : Type 0 where
+  pub two : last_chunk off len ≡ first_chunk off + 1 → MeetsTwo c
+  pub needs : (chunk : ℕ) → (chunk ≡ first_chunk off) ⊎ (chunk ≡ last_chunk off len) → NeedsChunk c file chunk
+
+-- a hold on a chunk has a pin on it
+not_unpinned : (s : Stand) (h : Holds) (file chunk hold : ℕ) (g : Granted) → HasHolds s h → IsUnpinned s.map file chunk → granted_at h hold ≡ Some g → g.file ≡ file → g.chunk ≢ chunk
+not_unpinned s h file chunk hold g holds none at on is =
+    let x = holds.each hold g at in
+    none g.pinned.range (pin-had s h hold g holds at) (x.pinned ∙ on) (x.shown ∙ is)
+
 -- each range was pinned, and is that of a hold
-pub full_of : (s t : Stand) (h : Holds) (c : Call) (file off len : ℕ) (looked : List Look) → HasHolds s h → (last_chunk off len ≡ first_chunk off + 1 → MeetsTwo c) → range_count t.map ≡ range_count s.map → IsSoundRanges t.map → IsBusy s.map file off len looked t.map → IsAlone s → IsFull (range_count s.map) h c (letters_of looked)
-full_of s t h c file off len looked holds two count sound (some, is, how) alone =
+pub full_of : (s t : Stand) (h : Holds) (c : Call) (file off len : ℕ) (looked : List Look) → HasHolds s h → Meets c file off len → range_count t.map ≡ range_count s.map → IsSoundRanges t.map → IsBusy s.map file off len looked t.map → IsAlone s → IsFull (range_count s.map) h c (letters_of looked)
+full_of s t h c file off len looked holds meets count sound (some, is, how) alone =
     let long : length t.map.ranges.looks ≡ range_count s.map = sound.looks ∙ count in
     let letters : ((r : ℕ) → r < range_count s.map → ShowsPinned t.map r) → letters_of looked ≡ replicate (range_count s.map) 112
     = λ each. ap letters_of is ∙ all_pinned 0 t.map.ranges.looks (λ r within. let p = each r (subst (λ n. r < n) long within) in (p.noted, p.at, p.letter)) ∙ ap (λ n. replicate n 112) long in
     ⊎_elim
-    (λ (b : AllBlocked s.map t.map × _). record {
+    (λ (b : AllBlocked s.map t.map × IsUnplaced s.map file (first_chunk off) t.map). record {
       pinned = letters (λ r within. shows_pinned s.map t.map r alone.ranges (b.0 r within));
       missing = None;
       two = tt;
       each = λ r within apart. held_range s h r holds (has_pins s.map t.map r alone.ranges (b.0 r within));
+      file = file;
+      chunk = first_chunk off;
+      needs = meets.needs (first_chunk off) (inl refl);
+      unheld = λ hold g. not_unpinned s h file (first_chunk off) hold g holds b.1.4;
     })
-    (λ (b : (last_chunk off len ≡ first_chunk off + 1) × ((range : ℕ) × AllBlocked (one_more_pin s.map range) t.map) × _).
+    (λ (b : (last_chunk off len ≡ first_chunk off + 1) × ((range : ℕ) × AllBlocked (one_more_pin s.map range) t.map) × IsUnplaced s.map file (first_chunk off + 1) t.map).
     let range = b.1.0 in
     let at = λ (r : ℕ) (within : r < range_count s.map). b.1.1 r (subst (λ n. r < n) (sym (count_pinned s.map range)) within) in
     record {
       pinned = letters (λ r within. shows_pinned (one_more_pin s.map range) t.map r alone.ranges (at r within));
       missing = Some range;
-      two = two b.0;
+      two = meets.two b.0;
+      file = file;
+      chunk = first_chunk off + 1;
+      needs = meets.needs (first_chunk off + 1) (inr (sym b.0));
+      unheld = λ hold g. not_unpinned s h file (first_chunk off + 1) hold g holds b.2.4;
       each = λ r within apart. held_range s h r holds (subst (λ n. 0 < n) (pins_elsewhere s.map range r (λ e. apart (ap (λ (n : ℕ). Some n) (sym e)))) (has_pins (one_more_pin s.map range) t.map r alone.ranges (at r within)));
     })
     how

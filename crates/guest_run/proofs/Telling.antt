@@ -74,7 +74,7 @@ IsHome-forgets t refs home = record {
 }
 
 IsHold-forgets : (t : Stand) (g : Granted) → IsHold t g → IsHold (forgets t) g
-IsHold-forgets t g x = record { file = x.file; chunk = x.chunk; through = x.through; upto = x.upto; entry = x.entry; range = x.range; pinned = x.pinned; end = x.end }
+IsHold-forgets t g x = record { file = x.file; chunk = x.chunk; through = x.through; upto = x.upto; entry = x.entry; range = x.range; pinned = x.pinned; shown = x.shown; end = x.end }
 
 HasHolds-forgets : (t : Stand) (k : Holds) → HasHolds t k → HasHolds (forgets t) k
 HasHolds-forgets t k x = record {

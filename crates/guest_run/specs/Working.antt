@@ -1,5 +1,5 @@
 -- The calls that a worker makes, what they rest on, and what comes of each.
-use Rattle.std.specs.Prelude.{◌≡◌, ◌≢◌, ℕ, zero, suc, ◌+◌, ◌<◌, ◌≤◌, ◌==◌, ◌&&◌, Bool, true, false, List, length, replicate, slice_get, take, Option, Some, None, IfSome, is_some, Result, Ok, Err, if◌then◌else◌}
+use Rattle.std.specs.Prelude.{◌≡◌, ◌≢◌, ◌⊎◌, ℕ, zero, suc, ◌+◌, ◌<◌, ◌≤◌, ◌==◌, ◌&&◌, Bool, true, false, List, length, replicate, slice_get, take, Option, Some, None, IfSome, is_some, Result, Ok, Err, if◌then◌else◌}
 use Rattle.plain_file.specs.declared.operations.Entry.{Entry}
 use Rattle.plain_file.specs.declared.operations.First.{First}
 use Rattle.plain_file.specs.declared.operations.Op.{Op}
@@ -157,12 +157,28 @@ MeetsTwo (calls.Load hold off len) = ⊥
 MeetsTwo (calls.Store hold off bytes) = ⊥
 MeetsTwo (calls.Release hold) = ⊥
 
--- Each range was pinned, and is that of a hold that the guest has; one may be missing where the call's bytes lie in two chunks.
+-- the chunk of a file is one that a call needs: its bytes lie there, or it asks to hold it
+unfoldable pub NeedsChunk : Call → ℕ → ℕ → Type 0
+NeedsChunk (calls.Read file off len) f chunk = (f ≡ file) × ((chunk ≡ first_chunk off) ⊎ (chunk ≡ last_chunk off len))
+NeedsChunk (calls.Write file off bytes) f chunk = (f ≡ file) × ((chunk ≡ first_chunk off) ⊎ (chunk ≡ last_chunk off (length bytes)))
+NeedsChunk (calls.Fill file off len byte) f chunk = (f ≡ file) × ((chunk ≡ first_chunk off) ⊎ (chunk ≡ last_chunk off len))
+NeedsChunk (calls.Hold file held mode) f chunk = (f ≡ file) × (chunk ≡ held)
+NeedsChunk (calls.Size file) f chunk = ⊥
+NeedsChunk (calls.Truncate file size) f chunk = ⊥
+NeedsChunk (calls.Load hold off len) f chunk = ⊥
+NeedsChunk (calls.Store hold off bytes) f chunk = ⊥
+NeedsChunk (calls.Release hold) f chunk = ⊥
+
+-- Each range was pinned, and is that of a hold that the guest has; one may be missing where the call's bytes lie in two chunks. Some chunk that the call needs is that of no such hold.
 pub record IsHeldUp (ranges : ℕ) (logs : ℕ → List LogEntry) (cs : List Call) (ls : List Numbered) (n : ℕ) (c : Call) (letters : List ℕ) : Type 0 where
   pub pinned : letters ≡ replicate ranges 112
   pub missing : Option ℕ
   pub two : IfSome missing (λ range. MeetsTwo c)
   pub each : (range : ℕ) → range < ranges → missing ≢ Some range → IsHeldRange logs cs ls n range
+  pub file : ℕ
+  pub chunk : ℕ
+  pub needs : NeedsChunk c file chunk
+  pub unheld : (hold : ℕ) (held : Wanted) (grant : Grant) → held_by cs hold ≡ Some held → Had cs (take n ls) n hold grant → held.file ≡ file → held.chunk ≢ chunk
 
 -- the lines of a guest that is alone: a truncation is refused exactly for its own holds on the file, and where no range could be taken, its own holds have them
 pub record IsFair (ranges : ℕ) (logs : ℕ → List LogEntry) (cs : List Call) (ls : List Numbered) : Type 0 where
@@ -250,12 +266,16 @@ after_refusal (calls.Load hold off len) h = h
 after_refusal (calls.Store hold off bytes) h = h
 after_refusal (calls.Release hold) h = h
 
--- each range was pinned, and is that of a hold of the guest's; one may be missing where the call's bytes lie in two chunks
+-- Each range was pinned, and is that of a hold of the guest's; one may be missing where the call's bytes lie in two chunks. Some chunk that the call needs is that of no hold.
 pub record IsFull (ranges : ℕ) (h : Holds) (c : Call) (letters : List ℕ) : Type 0 where
   pub pinned : letters ≡ replicate ranges 112
   pub missing : Option ℕ
   pub two : IfSome missing (λ range. MeetsTwo c)
   pub each : (range : ℕ) → range < ranges → missing ≢ Some range → (hold : ℕ) × (g : Granted) × (granted_at h hold ≡ Some g) × (g.pinned.range ≡ range)
+  pub file : ℕ
+  pub chunk : ℕ
+  pub needs : NeedsChunk c file chunk
+  pub unheld : (hold : ℕ) (g : Granted) → granted_at h hold ≡ Some g → g.file ≡ file → g.chunk ≢ chunk
 
 -- no range could be taken; where the guest is alone, its own holds have them
 pub record IsStuck (s : Stand) (h : Holds) (c : Call) (letters : List ℕ) (t : Stand) (k : Holds) : Type 0 where
