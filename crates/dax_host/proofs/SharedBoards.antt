@@ -1,5 +1,5 @@
 -- What a small board of the tests keeps.
-use Rattle.std.proofs.Common.{◌≡◌, ◌≢◌, ◌∙◌, ap, sym, subst, refl, ℕ, zero, suc, ◌+◌, ◌-◌, ◌<◌, ◌≤◌, ◌==◌, Bool, true, false, true≢false, not, ◌&&◌, nat_lt, arith, List, [], ◌∷◌, ◌++◌, append_assoc, length, slice_get, get_or, Option, Some, None, Result, Ok, Err, length-set, if◌then◌else◌}
+use Rattle.std.proofs.Common.{◌≡◌, ◌≢◌, ◌∙◌, ap, sym, subst, refl, ℕ, zero, suc, ◌+◌, ◌-◌, ◌<◌, ◌≤◌, ◌==◌, Bool, true, false, true≢false, not, ◌&&◌, nat_lt, arith, List, [], ◌∷◌, ◌++◌, append_assoc, length, slice_get, get_or, Option, Some, None, Ok, if◌then◌else◌}
 use Rattle.std.proofs.Common.{inl, inr}
 use Rattle.std.specs.Prelude.{All, IfSome}
 use Rattle.std.proofs.lemmas.Bool.{cases_Bool}
@@ -13,23 +13,12 @@ use Rattle.plain_file.specs.declared.operations.Op.{Op}
 use Rattle.plain_file.specs.declared.refusals.RefusedBar.{RefusedBar}
 use Rattle.plain_file.specs.File.{max_file, written, after}
 use Rattle.plain_file.specs.History.{Past, whole_bytes, next_answer, grown}
-use Rattle.plain_file.specs.Board.{FileView, BoardView, file_at, with_own, entry_of, bytes_now, is_file, file_may_apply, may_apply, file_answer, Applies}
+use Rattle.plain_file.specs.Board.{FileView, BoardView, file_at, bytes_now, is_file, file_may_apply, may_apply, file_answer, Applies}
 use Rattle.plain_file.specs.Sound.{IsPlaceOf, IsSoundBoard}
 use Rattle.plain_file.proofs.Grows.{bytes-grown}
-use Rattle.plain_file.proofs.OneFile.{file_at-with_file}
 use Rattle.plain_file.proofs.Places.{length-written}
-use Rattle.plain_file.specs.Turns.{AreOthers, seen_file, entered, left, Enters}
-use Rattle.page_map.specs.Board.{MapView}
-use Rattle.fuse_device.specs.State.{State, World}
-use Rattle.fuse_device.specs.Steps.{Step}
-use Rattle.fuse_device.specs.DataSteps.{data_step, named_file, CanStepData}
-use Rattle.fuse_device.specs.Promises.{world}
-use Rattle.fuse_device.proofs.DataFiles.{data_step_files}
-use Rattle.fuse_device.proofs.DataLaws.{named_within}
-use Rattle.guest_wire.specs.Wires.{boards, Sent, CanShare, turn_for, with_turn, without_turn, Honest}
-use Rattle.guest_wire.specs.declared.wires.WireError.{WireError}
-use Rattle.guest_wire.specs.declared.wires.WireError.TheVariants as errors
-use Rattle.dax_host.specs.SharedBoards.{turn_wire, GivesStep, turn_file, had, turn_hands, turn_board, IsComing, Sees, IsTurnFile, falls}
+use Rattle.plain_file.specs.Turns.{Enters}
+use Rattle.dax_host.specs.SharedBoards.{turn_file, had, turn_hands, turn_board, IsComing, Sees, IsTurnFile, falls}
 
 -- a write lowers no size
 written_longer : (b : List ℕ) (off : ℕ) (piece : List ℕ) → length b ≤ length (written b off piece)
@@ -261,104 +250,3 @@ pub turn_enters : (guest : ℕ) (mark : Mark) (turn bar : Bool) (leases : ℕ) (
 turn_enters guest mark turn bar leases past new own ready floor refusals refused (suc n) within sees = absurd (omega (arith, within))
 turn_enters guest mark turn bar leases past new own ready floor refusals refused zero within (more, others, e) =
     (more, record { others = others; plain = λ k. absurd (true≢false (sym k)) }, rw e refl)
-
--- ---- the wire
-
--- the step takes no turn and makes no file
-step_hands : (w : World) (readable : List ℕ) (room : ℕ) → (data_step w readable room).0.files.hands ≡ w.files.hands
-step_hands w readable room = elim (data_step_files w readable room) [
-  | inl same ↦ ap (λ (v : BoardView). v.hands) same
-  | inr on ↦ ap (λ (v : BoardView). v.hands) on.after
-]
-
-step_count : (w : World) (readable : List ℕ) (room : ℕ) → length (data_step w readable room).0.files.files ≡ length w.files.files
-step_count w readable room = elim (data_step_files w readable room) [
-  | inl same ↦ ap (λ (v : BoardView). length v.files) same
-  | inr on ↦ ap (λ (v : BoardView). length v.files) on.after ∙ length-set w.files.files on.file (with_own w.files.plain (entry_of w.files on.op) (file_at w.files on.file))
-]
-
--- so do the boards after a served request
-pub served_hands : (w : World) (sent : Sent) (result : Result (List ℕ) WireError) (new : World) → GivesStep w sent result new → new.files.hands ≡ w.files.hands
-served_hands w sent (Ok bytes) new e = sym (ap (λ (t : Step). t.0.files.hands) e) ∙ step_hands w sent.bytes sent.room
-served_hands w sent (Err errors.Memory) new e = ap (λ (x : World). x.files.hands) e
-served_hands w sent (Err errors.Fault) new e = absurd e
-
-pub served_count : (w : World) (sent : Sent) (result : Result (List ℕ) WireError) (new : World) → GivesStep w sent result new → length new.files.files ≡ length w.files.files
-served_count w sent (Ok bytes) new e = sym (ap (λ (t : Step). length t.0.files.files) e) ∙ step_count w sent.bytes sent.room
-served_count w sent (Err errors.Memory) new e = ap (λ (x : World). length x.files.files) e
-served_count w sent (Err errors.Fault) new e = absurd e
-
--- the boards serve the request whose file was entered
-pub entered_serves : (s : State) (files : BoardView) (map : MapView) (file : ℕ) (more : List Entry) (readable : List ℕ) → CanShare s (boards files map) → named_file s readable ≡ Some file
-    → CanStepData s (entered files file more) map readable
-entered_serves s files map file more readable can named =
-    let within : file < length files.files = omega (arith, named_within s readable file named, can.there) in
-    record {
-      there = rw (length-set files.files file (seen_file (file_at files file) more)) can.there;
-      pages = can.pages;
-      ready = λ f is. rw (same_number (named_file s readable) f file is named, file_at-with_file files file (seen_file (file_at files file) more) within) refl;
-    }
-
-pub entered_count : (files : BoardView) (file : ℕ) (more : List Entry) → length (entered files file more).files ≡ length files.files
-entered_count files file more = length-set files.files file (seen_file (file_at files file) more)
-
-own_turn : (s : State) (readable : List ℕ) → turn_for (turn_wire s) readable ≡ named_file s readable
-unfolding turn_for
-own_turn s readable = refl
-
-with_named : (w : World) (turn : Option ℕ) (file : ℕ) (more : List Entry) → turn ≡ Some file → with_turn turn w more ≡ record w { files = entered w.files file more }
-unfolding with_turn
-with_named w None file more e = absurd cc
-with_named w (Some f) file more e = let same : f ≡ file = cc in rw same refl
-
-without_named : (w : World) (turn : Option ℕ) (file : ℕ) → turn ≡ Some file → without_turn turn w ≡ record w { files = left w.files file }
-unfolding without_turn
-without_named w None file e = absurd cc
-without_named w (Some f) file e = let same : f ≡ file = cc in rw same refl
-
--- a request that was served in its file's turn
-pub turn_honest : (s : State) (files : BoardView) (map : MapView) (file : ℕ) (more : List Entry) (sent : Sent) (result : Result (List ℕ) WireError) (served : World)
-    → named_file s sent.bytes ≡ Some file → AreOthers files more → GivesStep (world s (entered files file more) map) sent result served
-    → Honest (turn_wire s) (world s files map) sent result (record served { files = left served.files file })
-turn_honest s files map file more sent (Ok bytes) served named others step =
-    let turn : turn_for (turn_wire s) sent.bytes ≡ Some file = own_turn s sent.bytes ∙ named in
-    record {
-      more = more;
-      others = others;
-      served = served;
-      step = rw (with_named (world s files map) (turn_for (turn_wire s) sent.bytes) file more turn) step;
-      left = sym (without_named served (turn_for (turn_wire s) sent.bytes) file turn);
-    }
-turn_honest s files map file more sent (Err errors.Memory) served named others step =
-    let turn : turn_for (turn_wire s) sent.bytes ≡ Some file = own_turn s sent.bytes ∙ named in
-    inr (inl (record {
-      more = more;
-      others = others;
-      left = rw (with_named (world s files map) (turn_for (turn_wire s) sent.bytes) file more turn, step) (sym (without_named (world s (entered files file more) map) (turn_for (turn_wire s) sent.bytes) file turn));
-    }))
-turn_honest s files map file more sent (Err errors.Fault) served named others step = absurd step
-
-with_none : (w : World) (turn : Option ℕ) → turn ≡ None → with_turn turn w [] ≡ w
-unfolding with_turn
-with_none w None e = refl
-with_none w (Some f) e = absurd cc
-
-without_none : (w : World) (turn : Option ℕ) → turn ≡ None → without_turn turn w ≡ w
-unfolding without_turn
-without_none w None e = refl
-without_none w (Some f) e = absurd cc
-
--- a request that names no file
-pub alone_honest : (s : State) (files : BoardView) (map : MapView) (sent : Sent) (result : Result (List ℕ) WireError) (served : World)
-    → named_file s sent.bytes ≡ None → GivesStep (world s files map) sent result served → Honest (turn_wire s) (world s files map) sent result served
-alone_honest s files map sent (Ok bytes) served named step =
-    let turn : turn_for (turn_wire s) sent.bytes ≡ None = own_turn s sent.bytes ∙ named in
-    record {
-      more = [];
-      others = record { others = All-nil (λ (e : Entry). e.guest ≢ files.guest); plain = λ _. refl };
-      served = served;
-      step = rw (with_none (world s files map) (turn_for (turn_wire s) sent.bytes) turn) step;
-      left = sym (without_none served (turn_for (turn_wire s) sent.bytes) turn);
-    }
-alone_honest s files map sent (Err errors.Memory) served named step = inl step
-alone_honest s files map sent (Err errors.Fault) served named step = absurd step

@@ -1,5 +1,5 @@
--- A daemon of one file stays one, and so do the boards that share it.
-use Rattle.std.proofs.Common.{◌≡◌, ◌∙◌, ap, sym, subst, refl, ℕ, Bool, true, false, Result, Ok, Err, if◌then◌else◌}
+-- A daemon of one file stays one, and its boards can be shared.
+use Rattle.std.proofs.Common.{◌≡◌, ◌∙◌, ap, sym, subst, refl, arith, ℕ, Bool, true, false, Result, Ok, Err, if◌then◌else◌}
 use Rattle.fuse_codec.specs.declared.messages.Head.{Head}
 use Rattle.fuse_codec.specs.declared.messages.Request.TheVariants as asks
 use Rattle.fuse_codec.specs.declared.replies.Reply.{Reply}
@@ -8,12 +8,11 @@ use Rattle.fuse_wire.specs.declared.opens.OpenIn.{OpenIn}
 use Rattle.fuse_wire.specs.declared.errno.Errno.{Errno}
 use Rattle.fuse_device.specs.declared.refusals.Refused.{Refused}
 use Rattle.fuse_device.specs.declared.refusals.Refused.TheVariants as refusals
-use Rattle.fuse_device.specs.State.{State, World, with_open, begun}
+use Rattle.fuse_device.specs.State.{World, with_open, begun}
 use Rattle.fuse_device.specs.Checks.{Outcome}
 use Rattle.fuse_device.specs.Requests.{init, open_file, answered, is_init, is_forget, served}
 use Rattle.fuse_device.specs.Promises.{Gives}
-use Rattle.guest_wire.specs.Wires.{Boards, CanShare}
-use Rattle.guest_wire.specs.Keeps.{KeepsBoards}
+use Rattle.guest_wire.specs.Wires.{boards, CanShare}
 use Rattle.dax_host.specs.SharedBoards.{Begins}
 
 -- the same boards, files and window
@@ -46,7 +45,7 @@ opened_same w h r = search (if_same, open_same, same)
 
 same_begins : (w : World) (o : Outcome) → Same w o → Begins w → Begins o.1
 same_begins w o h b = record {
-  one = record { few = rw h.made b.one.few; none = h.pages ∙ b.one.none };
+  one = record { few = rw h.made b.one.few; range = h.pages ∙ b.one.range };
   servable = record {
     plain = rw h.files b.servable.plain;
     enough = rw h.files b.servable.enough;
@@ -55,6 +54,7 @@ same_begins w o h b = record {
     free = rw h.map b.servable.free;
     pages = rw (h.map, h.pages) b.servable.pages;
   };
+  free = rw h.files b.free;
 }
 
 pub begins_after : (old : World) (o : Outcome) (result : Result Reply Refused) (new : World) → Gives old o result new → Same old o → Begins old → Begins new
@@ -62,10 +62,6 @@ begins_after old o (Ok reply) new e h b = subst Begins (ap (λ (x : Outcome). x.
 begins_after old o (Err (refusals.Errno n)) new e h b = subst Begins (sym e.1) b
 begins_after old o (Err refusals.Memory) new e h b = subst Begins (sym e) b
 
--- a daemon of one file can be shared over what boards keep
-pub shares_kept : (s : State) (old new : Boards) → CanShare s old → KeepsBoards old new → CanShare s new
-shares_kept s old new h k = record {
-  there = rw k.files.count h.there;
-  pages = k.map.count ∙ h.pages;
-  free = ap (λ x. x.turn) k.files.hands ∙ h.free;
-}
+-- boards with which a session began can be shared
+pub begins_shares : (w : World) → Begins w → CanShare w.state (boards w.files w.map)
+begins_shares w b = record { there = omega (arith, b.servable.few, b.servable.enough); pages = b.servable.pages; free = b.free }

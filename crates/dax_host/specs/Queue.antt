@@ -1,6 +1,6 @@
 -- A queue with both its sides over one memory: how far a request has come through it, and what it
 -- leaves there.
-use Rattle.std.specs.Prelude.{◌≡◌, ◌≤◌, ℕ, Bool, ◌&&◌, nat_le, List, length, replicate, Some, None, if◌then◌else◌}
+use Rattle.std.specs.Prelude.{◌≡◌, ◌≤◌, ℕ, Bool, false, ◌&&◌, nat_le, List, length, replicate, Some, None, ◌⊎◌, if◌then◌else◌}
 use Rattle.plain_file.specs.Limits.{max_part}
 use Rattle.vring.specs.declared.chains.Chain.{Chain}
 use Rattle.vring.specs.Chain.{ChainLiesIn}
@@ -95,3 +95,7 @@ carried q readable room answer = after_return (after_answer (after_pop (after_of
 -- a request was offered, passed over by the device, and taken back with no answer
 unfoldable pub given_up : QueueView → List ℕ → ℕ → QueueView
 given_up q readable room = after_return (after_pop (after_offer q readable room)) 0
+
+-- for want of memory a request wasn't brought to the device: the queue that is there doesn't take it, and is as it was, or the request was given up
+abbrev pub IsNotBrought : QueueView → List ℕ → ℕ → QueueView → Type 0
+IsNotBrought old readable room new = ((takes old.driver.part (length readable) room ≡ false) × (new ≡ old)) ⊎ (new ≡ given_up (queue_for old (length readable) room) readable room)

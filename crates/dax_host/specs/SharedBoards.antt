@@ -1,5 +1,5 @@
--- A small board of the tests, whose file others use too, and the wire over it.
-use Rattle.std.specs.Prelude.{◌≡◌, ◌≢◌, ℕ, ◌<◌, ◌≤◌, Bool, true, false, nat_lt, List, [], ◌∷◌, ◌++◌, length, slice_get, Option, Some, None, IfSome, Result, Ok, Err, All, if◌then◌else◌}
+-- A small board of the tests, whose file others use too, and a daemon of one file.
+use Rattle.std.specs.Prelude.{◌≡◌, ◌≢◌, ℕ, ◌<◌, ◌≤◌, Bool, true, false, nat_lt, List, [], ◌∷◌, ◌++◌, length, slice_get, Option, Some, None, IfSome, All, if◌then◌else◌}
 use Rattle.plain_file.specs.declared.operations.Entry.{Entry}
 use Rattle.plain_file.specs.declared.operations.Mark.{Mark}
 use Rattle.plain_file.specs.declared.operations.Op.{Op}
@@ -8,12 +8,8 @@ use Rattle.plain_file.specs.File.{max_file, reach, after}
 use Rattle.plain_file.specs.History.{Past, whole_bytes}
 use Rattle.plain_file.specs.Board.{FileView, FileHands, BoardView}
 use Rattle.plain_file.specs.Sound.{IsPlaceOf}
-use Rattle.fuse_device.specs.DataSteps.{data_step}
 use Rattle.fuse_device.specs.Promises.{IsServable}
 use Rattle.fuse_device.specs.State.{State, World}
-use Rattle.guest_wire.specs.Wires.{WireView, Boards, Sent, world_at, Honest}
-use Rattle.guest_wire.specs.declared.wires.WireError.{WireError}
-use Rattle.guest_wire.specs.declared.wires.WireError.TheVariants as errors
 
 -- the file of which all that came is seen
 abbrev pub turn_file : Past → List ℕ → Bool → Option ℕ → ℕ → Option RefusedBar → FileView
@@ -54,30 +50,15 @@ pub record IsTurnFile (guest : ℕ) (bar : Bool) (leases : ℕ) (floor : Option 
 abbrev pub falls : Past → Op → Bool
 falls past op = nat_lt (length (after (whole_bytes past) op)) (length (whole_bytes past))
 
--- ---- the wire
-
--- an honest wire to a daemon that stays as it is
-abbrev pub turn_wire : State → WireView
-turn_wire s = record { honest = true; over = None; faults = 0; stays = true; state = s }
-
--- what it gives: all that an honest wire does
-abbrev pub TurnGives : State → Boards → Sent → Result (List ℕ) WireError → State → Boards → Type 0
-TurnGives s old sent result t new = Honest (turn_wire s) (world_at (turn_wire s) old) sent result (world_at (turn_wire t) new)
-
--- a request was served as the daemon's step, or nothing was done
-abbrev pub GivesStep : World → Sent → Result (List ℕ) WireError → World → Type 0
-GivesStep old sent (Ok bytes) new = data_step old sent.bytes sent.room ≡ (new, bytes)
-GivesStep old sent (Err errors.Memory) new = new ≡ old
-GivesStep old sent (Err errors.Fault) new = ⊥
-
 -- ---- a daemon of one file
 
--- at most one file, and no window
+-- at most one file, and a window of one range, which has 512 pages
 pub record HasOne (s : State) : Type 0 where
   pub few : length s.made ≤ 1
-  pub none : s.pages ≡ 0
+  pub range : s.pages ≡ 512
 
--- the same, over boards that can serve any request
+-- the same, over boards that can serve any request, with no turn had
 pub record Begins (w : World) : Type 0 where
   pub one : HasOne w.state
   pub servable : IsServable w
+  pub free : w.files.hands.turn ≡ None

@@ -1,4 +1,4 @@
--- A wire to a daemon in the caller's thread.
+-- A wire to a daemon of its own, in the caller's thread.
 use Rattle.std.specs.Prelude.{ℕ, List, true, false, None, Result}
 use Rattle.guest_wire.specs.declared.wires.WireError.{WireError}
 use Rattle.guest_wire.specs.Wires.{WireView, Boards, Sent, world_at}
@@ -8,7 +8,7 @@ use Rattle.dax_host.specs.declared.solo.SoloWire.{SoloWire}
 
 -- what it means as a wire: it is honest, stands over nothing, and never fails
 abbrev pub solo_wire : SoloWire → WireView
-solo_wire w = record { honest = true; over = None; faults = 0; stays = false; state = w.daemon.now }
+solo_wire w = record { honest = true; over = None; faults = 0; stays = false; state = w.daemon }
 
 -- its queue
 abbrev pub solo_queue : SoloWire → QueueView

@@ -6,7 +6,7 @@ ghost use Rattle.dax_host.specs.Rounds.{CarriedIsRead, GivenUpIsIdle, FreshIsIdl
 /// takes both of its parts.
 ///
 /// It does nothing: its clauses are laws of the words in which the contracts of
-/// [`SoloWire`](crate::SoloWire) speak of its queue.
+/// [`SoloWire`](crate::SoloWire) and [`HostWire`](crate::HostWire) speak of their queues.
 #[tactic(auto, using(crate::proofs::Rounds::given_up_idle, crate::proofs::Rounds::fresh_idle, crate::proofs::Rounds::queue_for_has_room))]
 pub fn requests_go_through()
     ensures carried { CarriedIsRead }

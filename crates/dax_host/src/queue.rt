@@ -1,17 +1,20 @@
 ghost use Rattle.std.specs.Prelude.{◌≡◌, ◌≤◌, length, IfOk};
 ghost use Rattle.plain_file.specs.Limits.{max_part};
 ghost use Rattle.fuse_device.specs.Promises.{CanStep, world};
-ghost use Rattle.guest_wire.specs.Wires.{sending};
+ghost use Rattle.guest_wire.specs.Wires.{boards, sending, CanShare};
 ghost use Rattle.dax_host.specs.Queue.{fresh_queue};
 ghost use Rattle.dax_host.specs.Carrying.{host, Carries};
+ghost use Rattle.dax_host.specs.InTurn.{CarriesInTurn};
 
-use crate::transport::{Sides, room_in};
+use crate::transport::Sides;
+use crate::turns::serve_in_turn;
 use daemon_core::Daemon;
 use guest_wire::WireError;
 use page_map::MapBoard;
-use plain_file::{Blob, FileBoard, Memory};
+use plain_file::{Blob, FileBoard, FileTurns, Memory};
 use std::alloc::Global;
 use std::marker::Model;
+use std::sync::Wait;
 use vring::{Chain, powers_of_two_are_queue_sizes};
 
 // How many descriptors the queue has. A request takes two of them.
@@ -71,15 +74,33 @@ impl Queue {
             (host self.new (world daemon.new (F.board files.new) (M.map map.new))) }
     {
         let sides = &mut self.sides;
-        sides.make_room(alloc, readable.len(), room)?;
-        sides.deliver(&mut self.chain, &mut self.readable, readable, room)?;
-        let room = room_in(&self.chain);
-        match daemon.serve_chain(alloc, &self.readable, room, files, map) {
-            Ok(bytes) => Ok(sides.answer(&self.chain, bytes, room)?),
-            Err(Memory) => {
-                sides.give_up(room);
-                Err(WireError::Memory)
-            }
-        }
+        let room = sides.bring(alloc, &mut self.chain, &mut self.readable, readable, room)?;
+        let answer = daemon.serve_chain(alloc, &self.readable, room, files, map);
+        Ok(sides.bring_back(&self.chain, answer, room)?)
+    }
+
+    // The same to a daemon that stays as it is, which serves the request in the turn of its file.
+    #[tactic(auto, unfolding(crate::specs::Queue::carried, crate::specs::Queue::given_up))]
+    pub(crate) fn carry_in_turn<R: Wait, F: FileTurns, M: MapBoard>(
+        &mut self,
+        rt: &R,
+        alloc: Global,
+        daemon: &Daemon,
+        readable: &[u8],
+        room: u32,
+        files: &mut F,
+        map: &mut M,
+    ) -> Result<Blob, WireError>
+        requires readable { length readable.now ≤ max_part }
+        requires room { room ≤ max_part }
+        requires boards { CanShare daemon.now (boards (F.FileBoard.board files.old) (M.map map.old)) }
+        ensures { CarriesInTurn (host self.old (world daemon.now (F.FileBoard.board files.old) (M.map map.old)))
+            (sending readable.now room) result
+            (host self.new (world daemon.now (F.FileBoard.board files.new) (M.map map.new))) }
+    {
+        let sides = &mut self.sides;
+        let room = sides.bring(alloc, &mut self.chain, &mut self.readable, readable, room)?;
+        let served = serve_in_turn(rt, alloc, daemon, &self.readable, room, files, map);
+        Ok(sides.bring_back(&self.chain, served, room)?)
     }
 }

@@ -1,20 +1,13 @@
-//! A small board of the tests, whose file others use too, and an honest wire over it that takes turns.
+//! A small board of the tests, whose file others use too.
 ghost use Rattle.std.specs.Prelude.{◌≡◌, ◌≢◌, ◌≤◌, ◌∷◌, [], ℕ, ◌==◌, ◌&&◌, if◌then◌else◌, true, false, None, Some, All, IfOk, not, IsTrue, length};
 ghost use Rattle.plain_file.specs.File.{max_file, reach};
 ghost use Rattle.plain_file.specs.Plain.{first_mark};
 ghost use Rattle.plain_file.specs.History.{new_past};
-ghost use Rattle.plain_file.specs.Limits.{max_part};
-ghost use Rattle.fuse_device.specs.DataSteps.{CanStepData, named_file};
-ghost use Rattle.fuse_device.specs.Promises.{world};
-ghost use Rattle.guest_wire.specs.Wires.{boards, sending, CanShare, Honest};
-ghost use Rattle.dax_host.specs.SharedBoards.{turn_file, turn_hands, turn_board, IsComing, Sees, falls, turn_wire, TurnGives, GivesStep};
+ghost use Rattle.dax_host.specs.SharedBoards.{turn_file, turn_hands, turn_board, IsComing, Sees, falls};
 
-use daemon_core::Daemon;
-use guest_wire::{Wire, WireError};
-use page_map::MapBoard;
 use plain_file::{
-    Applied, Blob, BoardRefusal, Body, Entry, FileBoard, FileTurns, First, Leased, List, Mark,
-    Memory, Op, RefusedBar, Way,
+    Applied, BoardRefusal, Body, Entry, FileBoard, FileTurns, First, Leased, List, Mark, Memory,
+    Op, RefusedBar, Way,
 };
 use std::alloc::Global;
 use std::marker::Model;
@@ -247,96 +240,5 @@ impl FileTurns for TurnFile {
 
     fn unbar(&mut self, _file: u32) {
         self.bar = false;
-    }
-}
-
-/// An honest wire to a daemon that stays as it is, in the caller's thread: it takes the turn of the file that
-/// a request names, serves the request, and gives the turn back. It waits for the turn.
-#[derive(Drop)]
-pub struct TurnWire<'a> {
-    daemon: &'a Daemon,
-}
-
-impl<'a> TurnWire<'a> {
-    pub fn new(daemon: &'a Daemon) -> TurnWire<'a>
-        ensures { result.daemon.now ≡ daemon.now }
-    {
-        TurnWire { daemon }
-    }
-}
-
-// Serves a request whose file is ready.
-fn serve_ready<F: FileBoard, M: MapBoard>(
-    alloc: Global,
-    daemon: &Daemon,
-    readable: &[u8],
-    room: u32,
-    files: &mut F,
-    map: &mut M,
-) -> Result<Blob, WireError>
-    requires within { length readable.now ≤ max_part }
-    requires boards { CanStepData daemon.now (F.board files.old) (M.map map.old) readable.now }
-    ensures { GivesStep (world daemon.now (F.board files.old) (M.map map.old)) (sending readable.now room) result (world daemon.now (F.board files.new) (M.map map.new)) }
-{
-    Ok(daemon.serve_chain_data(alloc, readable, room, files, map)?)
-}
-
-// Serves a request in the turn of the file that it names.
-fn serve_in_turn<R: Wait, F: FileTurns, M: MapBoard>(
-    rt: &R,
-    alloc: Global,
-    daemon: &Daemon,
-    file: u32,
-    readable: &[u8],
-    room: u32,
-    files: &mut F,
-    map: &mut M,
-) -> Result<Blob, WireError>
-    requires within { length readable.now ≤ max_part }
-    requires boards { CanShare daemon.now (boards (F.FileBoard.board files.old) (M.map map.old)) }
-    requires named { named_file daemon.now readable.now ≡ Some file }
-    ensures { Honest (turn_wire daemon.now) (world daemon.now (F.FileBoard.board files.old) (M.map map.old)) (sending readable.now room) result (world daemon.now (F.FileBoard.board files.new) (M.map map.new)) }
-{
-    files.enter(rt, file);
-    let answer = serve_ready(alloc, daemon, readable, room, files, map);
-    files.leave(file);
-    answer
-}
-
-// Serves a request, in the turn of the file that it names, if it names one.
-fn serve<R: Wait, F: FileTurns, M: MapBoard>(
-    rt: &R,
-    alloc: Global,
-    daemon: &Daemon,
-    readable: &[u8],
-    room: u32,
-    files: &mut F,
-    map: &mut M,
-) -> Result<Blob, WireError>
-    requires within { length readable.now ≤ max_part }
-    requires boards { CanShare daemon.now (boards (F.FileBoard.board files.old) (M.map map.old)) }
-    ensures { Honest (turn_wire daemon.now) (world daemon.now (F.FileBoard.board files.old) (M.map map.old)) (sending readable.now room) result (world daemon.now (F.FileBoard.board files.new) (M.map map.new)) }
-{
-    match daemon.named_file(readable) {
-        Some(file) => serve_in_turn(rt, alloc, daemon, file, readable, room, files, map),
-        None => serve_ready(alloc, daemon, readable, room, files, map),
-    }
-}
-
-impl<'a, F: FileTurns, M: MapBoard> Wire<F, M> for TurnWire<'a> {
-    ghost wire = { λ w. turn_wire w.daemon.now };
-
-    ghost gives = { λ before old sent result after new. TurnGives before.daemon.now old sent result after.daemon.now new };
-
-    fn submit<R: Wait>(
-        &mut self,
-        rt: &R,
-        alloc: Global,
-        readable: &[u8],
-        room: u32,
-        files: &mut F,
-        map: &mut M,
-    ) -> Result<Blob, WireError> {
-        serve(rt, alloc, self.daemon, readable, room, files, map)
     }
 }

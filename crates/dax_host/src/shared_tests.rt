@@ -1,96 +1,17 @@
-ghost use Rattle.std.specs.Prelude.{◌≡◌, ◌≤◌, length, IfOk, None};
-ghost use Rattle.std.specs.List.{IsDistinct};
-ghost use Rattle.std.specs.Str.{bytes_eq};
-ghost use Rattle.fuse_device.specs.Promises.{world};
+//! A wire to a daemon that stays as it is, over a board whose file others use too.
+ghost use Rattle.std.specs.Prelude.{◌≡◌, length, IfOk, None};
 ghost use Rattle.guest_wire.specs.Wires.{boards, CanShare};
-ghost use Rattle.dax_host.specs.SharedBoards.{HasOne, Begins};
 
-use crate::shared_boards::{TurnFile, TurnWire};
+use crate::host::HostWire;
+use crate::host_tests::{A, started};
+use crate::shared_boards::TurnFile;
 use daemon_core::Daemon;
-use fuse_codec::{Head, Message, Request};
-use fuse_wire::{InitIn, OpenIn};
-use guest_wire::{Driver, FileRef, WireRefusal};
-use page_map::PageMap;
-use plain_file::{Blob, Entry, First, List, Memory, Name, Op, PlainFiles, Way};
+use guest_wire::{Driver, WireRefusal};
+use page_map::{Mode, PageMap};
+use plain_file::{Blob, Entry, First, Memory, Op, Way};
 use std::alloc::Global;
 use std::sync::Wait;
 use std::test::Fail;
-
-const A: FileRef = FileRef { node: 2, fh: 1 };
-
-// One file's name: "a".
-#[tactic(auto, using(fuse_device::proofs::Servable::one_distinct, fuse_device::proofs::Servable::none_distinct))]
-fn one_name(alloc: Global) -> Result<List<Name>, Memory>
-    ensures few { IfOk result (λ names. length names ≤ 1) }
-    ensures different { IfOk result (λ names. IsDistinct bytes_eq names) }
-{
-    let mut names = List::new(alloc);
-    if let Some(name) = Name::copy_of(alloc, b"a")? {
-        names.push(name)?;
-    }
-    Ok(names)
-}
-
-fn head(node: u64) -> Head {
-    Head {
-        unique: 1,
-        nodeid: node,
-        uid: 0,
-        gid: 0,
-        pid: 0,
-    }
-}
-
-// Starts the session.
-#[tactic(auto, unfolding(fuse_codec::specs::Grammar::is_bounded, fuse_device::specs::Promises::Needs))]
-fn start(alloc: Global, daemon: &mut Daemon, files: &mut PlainFiles, map: &mut PageMap) -> bool
-    requires { Begins (world daemon.old files.old map.old) }
-    ensures { Begins (world daemon.new files.new map.new) }
-{
-    let body = Request::Init(InitIn {
-        major: 7,
-        minor: 31,
-        max_readahead: 0,
-        flags: 0,
-        flags2: None,
-    });
-    let message = Message {
-        head: head(0),
-        body,
-    };
-    daemon.serve(alloc, message, files, map).is_ok()
-}
-
-// Opens file "a".
-#[tactic(auto, unfolding(fuse_codec::specs::Grammar::is_bounded, fuse_device::specs::Promises::Needs))]
-fn open(alloc: Global, daemon: &mut Daemon, files: &mut PlainFiles, map: &mut PageMap) -> bool
-    requires { Begins (world daemon.old files.old map.old) }
-    ensures { Begins (world daemon.new files.new map.new) }
-{
-    let body = Request::OpenFile(OpenIn {
-        flags: 2,
-        open_flags: 0,
-    });
-    let message = Message {
-        head: head(2),
-        body,
-    };
-    daemon.serve(alloc, message, files, map).is_ok()
-}
-
-// A daemon without a window, whose file "a" is open by handle 1.
-fn started(alloc: Global) -> Result<Daemon, Memory>
-    ensures { IfOk result HasOne }
-{
-    let names = one_name(alloc)?;
-    let firsts = List::from_vec(Vec::from_slice(alloc, &[First { size: 0, fill: 0 }; 16])?);
-    let mut daemon = Daemon::new(alloc, 0, &names)?;
-    let mut files = PlainFiles::new(alloc, 0, &firsts)?;
-    let mut map = PageMap::new(alloc, 0)?;
-    start(alloc, &mut daemon, &mut files, &mut map);
-    open(alloc, &mut daemon, &mut files, &mut map);
-    Ok(daemon)
-}
 
 fn read_a<R: Wait>(
     rt: &R,
@@ -102,7 +23,7 @@ fn read_a<R: Wait>(
     requires { CanShare daemon.now (boards files.old map.old) }
     ensures { CanShare daemon.now (boards files.new map.new) }
 {
-    let mut client = Driver::new(TurnWire::new(daemon));
+    let mut client = Driver::new(HostWire::new(alloc, daemon)?);
     client.read(rt, alloc, A, 0, 9, files, map)
 }
 
@@ -116,7 +37,7 @@ fn size_of_a<R: Wait>(
     requires { CanShare daemon.now (boards files.old map.old) }
     ensures { CanShare daemon.now (boards files.new map.new) }
 {
-    let mut client = Driver::new(TurnWire::new(daemon));
+    let mut client = Driver::new(HostWire::new(alloc, daemon)?);
     let out = client.getattr(rt, alloc, A, files, map)?;
     Ok(out.attr.size)
 }
@@ -131,9 +52,23 @@ fn cut_a<R: Wait>(
     requires { CanShare daemon.now (boards files.old map.old) }
     ensures { CanShare daemon.now (boards files.new map.new) }
 {
-    let mut client = Driver::new(TurnWire::new(daemon));
+    let mut client = Driver::new(HostWire::new(alloc, daemon)?);
     let out = client.setattr_size(rt, alloc, A, 1, files, map)?;
     Ok(out.attr.size)
+}
+
+fn map_a<R: Wait>(
+    rt: &R,
+    alloc: Global,
+    daemon: &Daemon,
+    files: &mut TurnFile,
+    map: &mut PageMap,
+) -> Result<(), WireRefusal>
+    requires { CanShare daemon.now (boards files.old map.old) }
+    ensures { CanShare daemon.now (boards files.new map.new) }
+{
+    let mut client = Driver::new(HostWire::new(alloc, daemon)?);
+    client.setup(rt, alloc, 2, 0, 0, Mode::R, files, map)
 }
 
 // An operation of guest 1.
@@ -169,14 +104,17 @@ fn guest_at(files: &TurnFile, at: usize) -> Option<u32> {
     }
 }
 
-// What others did comes before each request, and without a bar the size doesn't fall.
+// What others did comes before each request that names a file, and not before one that names none, as it
+// has no turn. Without a bar the size doesn't fall.
 #[test]
 fn others_come_between(rt: HostRuntime) -> Result<(), Fail> {
     let alloc = rt.alloc();
-    let daemon = started(alloc)?;
+    let (daemon, _files, _map) = started(alloc)?;
     let mut files = others_file(alloc)?;
-    let mut map = PageMap::new(alloc, 0)?;
+    let mut map = PageMap::new(alloc, 512)?;
     let bytes = Blob::copy_of(alloc, b"hell")?;
+    assert_eq!(rt; map_a(&rt, alloc, &daemon, &mut files, &mut map), Ok(()));
+    assert_eq!(rt; guest_at(&files, 0), None);
     assert_eq!(rt;
         read_a(&rt, alloc, &daemon, &mut files, &mut map),
         Ok(bytes)

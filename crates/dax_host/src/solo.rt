@@ -10,8 +10,9 @@ use plain_file::{Blob, FileBoard, Memory};
 use std::alloc::Global;
 use std::sync::Wait;
 
-/// A wire to a daemon in the caller's thread: each request goes through a split virtqueue (VIRTIO 1.2
-/// section 2.7) and back. It is honest, never fails, and doesn't wait.
+/// A wire to a daemon of its own, in the caller's thread: each request goes through a split virtqueue (VIRTIO
+/// 1.2 section 2.7) and back. It is honest, never fails, and doesn't wait. [`into_daemon`](SoloWire::into_daemon)
+/// gives the daemon back.
 ///
 /// What it gives for a request says what becomes of the queue's memory and of both its sides: the request
 /// was offered, popped, answered by the bytes of the daemon's step, pushed and taken back. The queue has as
@@ -20,25 +21,32 @@ use std::sync::Wait;
 /// [`MAX_PART`](plain_file::MAX_PART) bytes of room for either part, the least that does, in which nothing
 /// was offered before.
 #[derive(Drop)]
-pub struct SoloWire<'a> {
-    daemon: &'a mut Daemon,
+pub struct SoloWire {
+    daemon: Daemon,
     queue: Queue,
 }
 
-impl<'a> SoloWire<'a> {
+impl SoloWire {
     /// A wire to this daemon, with a queue of its own: it has four descriptors and 8,192 bytes of room for
     /// either part of a request, nothing was offered yet, and its memory, of 16,512 bytes, is all 0.
     /// `Memory` comes where an allocation was refused.
-    pub fn new(alloc: Global, daemon: &'a mut Daemon) -> Result<SoloWire<'a>, Memory>
-        ensures wire { IfOk result (λ w. solo_wire w ≡ record { honest = true; over = None; faults = 0; stays = false; state = daemon.old }) }
+    pub fn new(alloc: Global, daemon: Daemon) -> Result<SoloWire, Memory>
+        ensures wire { IfOk result (λ w. solo_wire w ≡ record { honest = true; over = None; faults = 0; stays = false; state = daemon }) }
         ensures queue { IfOk result (λ w. solo_queue w ≡ fresh_queue 4 8192) }
     {
         let queue = Queue::new(alloc)?;
         Ok(SoloWire { daemon, queue })
     }
+
+    /// The daemon, as the requests left it.
+    pub fn into_daemon(self) -> Daemon
+        ensures { result ≡ (solo_wire self).state }
+    {
+        self.daemon
+    }
 }
 
-impl<'a, F: FileBoard, M: MapBoard> Wire<F, M> for SoloWire<'a> {
+impl<F: FileBoard, M: MapBoard> Wire<F, M> for SoloWire {
     ghost wire = { solo_wire };
 
     ghost gives = { SoloGives };
@@ -53,6 +61,6 @@ impl<'a, F: FileBoard, M: MapBoard> Wire<F, M> for SoloWire<'a> {
         map: &mut M,
     ) -> Result<Blob, WireError> {
         self.queue
-            .carry(alloc, self.daemon, readable, room, files, map)
+            .carry(alloc, &mut self.daemon, readable, room, files, map)
     }
 }

@@ -42,7 +42,7 @@ fn device(alloc: Global) -> Result<(Daemon, PlainFiles, PageMap), Memory>
 }
 
 // A client of a device that requests reach through a queue.
-type Client<'a> = Driver<SoloWire<'a>>;
+type Client = Driver<SoloWire>;
 
 const A: FileRef = FileRef { node: 2, fh: 1 };
 
@@ -72,8 +72,8 @@ fn make<R: Wait>(
     map: &mut PageMap,
     call: &Call,
 ) -> Result<Reply, WireRefusal>
-    requires { IsServable (world client.old.wire.daemon.now files.old map.old) }
-    ensures { IsServable (world client.new.wire.daemon.now files.new map.new) }
+    requires { IsServable (world client.old.wire.daemon files.old map.old) }
+    ensures { IsServable (world client.new.wire.daemon files.new map.new) }
 {
     match call {
         Call::Init => client.init(rt, alloc, true, files, map).map(Reply::Init),
@@ -101,15 +101,15 @@ fn make<R: Wait>(
     }
 }
 
-fn opened(fh: u64) -> Reply {
+pub(crate) fn opened(fh: u64) -> Reply {
     Reply::Opened(OpenOut { fh, open_flags: 0 })
 }
 
-fn wrote(size: u32) -> Reply {
+pub(crate) fn wrote(size: u32) -> Reply {
     Reply::Wrote(WriteOut { size })
 }
 
-fn done(_: ()) -> Reply {
+pub(crate) fn done(_: ()) -> Reply {
     Reply::Done
 }
 
@@ -176,8 +176,8 @@ fn init_reply() -> Reply {
 #[test]
 fn session(rt: HostRuntime) -> Result<(), Fail> {
     let alloc = rt.alloc();
-    let (mut daemon, mut files, mut map) = device(alloc)?;
-    let mut client = Driver::new(SoloWire::new(alloc, &mut daemon)?);
+    let (daemon, mut files, mut map) = device(alloc)?;
+    let mut client = Driver::new(SoloWire::new(alloc, daemon)?);
     let Some(name) = Name::copy_of(alloc, b"a")? else {
         panic!(&rt; "no name")
     };

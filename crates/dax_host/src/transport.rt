@@ -1,8 +1,8 @@
-ghost use Rattle.std.specs.Prelude.{◌≡◌, ◌≤◌, ℕ, false, length, IfOk, OnOk, OnErr};
+ghost use Rattle.std.specs.Prelude.{◌≡◌, ◌≤◌, ℕ, false, length, IfOk, OnOk, OnErr, Ok};
 ghost use Rattle.plain_file.specs.Limits.{max_part};
 ghost use Rattle.vring.specs.Chain.{ChainLiesIn};
 ghost use Rattle.vring.specs.Driver.{IsQueueSize, driver_layout, offered_room};
-ghost use Rattle.dax_host.specs.Queue.{IsIdle, IsOffered, IsDelivered, fresh_queue, takes, part_for, queue_for, after_offer, after_pop, after_answer, after_return, given_up};
+ghost use Rattle.dax_host.specs.Queue.{IsIdle, IsOffered, IsDelivered, IsNotBrought, fresh_queue, takes, part_for, queue_for, after_offer, after_pop, after_answer, after_return, given_up};
 
 use plain_file::{Blob, Memory};
 use std::alloc::Global;
@@ -100,7 +100,7 @@ impl Sides {
 
     // Makes room for both parts of a request: a queue with more of it, where this one doesn't take them.
     #[tactic(auto, unfolding(crate::specs::Queue::queue_for))]
-    pub(crate) fn make_room(&mut self, alloc: Global, len: usize, room: u32) -> Result<(), Memory>
+    fn make_room(&mut self, alloc: Global, len: usize, room: u32) -> Result<(), Memory>
         requires idle { IsIdle self.old }
         requires len { len ≤ max_part }
         requires room { room ≤ max_part }
@@ -171,7 +171,7 @@ impl Sides {
     }
 
     // Hands a request back that wasn't served; the device begins again behind it.
-    pub(crate) fn give_up(&mut self, room: u32)
+    fn give_up(&mut self, room: u32)
         requires out { IsOffered self.old room }
         requires room { room ≤ self.old.driver.part }
         ensures queue { self.new ≡ after_return
@@ -184,7 +184,7 @@ impl Sides {
 
     // Brings a request to the device.
     #[tactic(auto, unfolding(crate::specs::Queue::given_up))]
-    pub(crate) fn deliver(
+    fn deliver(
         &mut self,
         chain: &mut Chain,
         bytes: &mut Vec<u8>,
@@ -221,7 +221,7 @@ impl Sides {
     }
 
     // Brings the answer to the driver, which reads it into the buffer that it came in.
-    pub(crate) fn answer(&mut self, chain: &Chain, bytes: Blob, room: u32) -> Result<Blob, Memory>
+    fn answer(&mut self, chain: &Chain, bytes: Blob, room: u32) -> Result<Blob, Memory>
         requires delivered { IsDelivered self.old room chain.now }
         requires room { room ≤ self.old.driver.part }
         requires fits { length bytes ≤ room }
@@ -236,10 +236,59 @@ impl Sides {
         read.extend_from_slice(self.driver.written(&self.memory, len))?;
         Ok(Blob::from_vec(read))
     }
+
+    // Makes room for a request and brings it to the device. Tells how much room its chain has.
+    pub(crate) fn bring(
+        &mut self,
+        alloc: Global,
+        chain: &mut Chain,
+        bytes: &mut Vec<u8>,
+        readable: &[u8],
+        room: u32,
+    ) -> Result<u32, Memory>
+        requires idle { IsIdle self.old }
+        requires len { length readable.now ≤ max_part }
+        requires room { room ≤ max_part }
+        ensures room { IfOk result (λ r. r ≡ room) }
+        ensures part { OnOk result (room ≤ self.new.driver.part) }
+        ensures ok { OnOk result (IsDelivered self.new room chain.new) }
+        ensures bytes { OnOk result (bytes.new.items ≡ readable.now) }
+        ensures popped { OnOk result (self.new ≡ after_pop (after_offer (queue_for self.old (length readable.now) room) readable.now room)) }
+        ensures err { OnErr result (IsNotBrought self.old readable.now room self.new) }
+        ensures idle { OnErr result (IsIdle self.new) }
+    {
+        self.make_room(alloc, readable.len(), room)?;
+        self.deliver(chain, bytes, readable, room)?;
+        Ok(room_in(chain))
+    }
+
+    // Brings the device's answer back, or takes the request back where there is none.
+    pub(crate) fn bring_back(
+        &mut self,
+        chain: &Chain,
+        answer: Result<Blob, Memory>,
+        room: u32,
+    ) -> Result<Blob, Memory>
+        requires delivered { IsDelivered self.old room chain.now }
+        requires room { room ≤ self.old.driver.part }
+        requires fits { IfOk answer (λ b. length b ≤ room) }
+        ensures bytes { IfOk result (λ b. answer ≡ Ok b) }
+        ensures ok { IfOk answer (λ b. self.new ≡ after_return (after_answer self.old room b) (length b)) }
+        ensures err { OnErr answer (self.new ≡ after_return self.old 0) }
+        ensures idle { IsIdle self.new }
+    {
+        match answer {
+            Ok(bytes) => self.answer(chain, bytes, room),
+            Err(memory) => {
+                self.give_up(room);
+                Err(memory)
+            }
+        }
+    }
 }
 
 // How much room a delivered chain has.
-pub(crate) fn room_in(chain: &Chain) -> u32
+fn room_in(chain: &Chain) -> u32
     ensures { (size part room : ℕ) → chain.now.writable ≡ offered_room size part room → room ≤ max_part → result ≡ room }
 {
     room_is_offered();

@@ -2,4 +2,5 @@ pub mod Told
 pub mod Asking
 pub mod Opening
 pub mod Playing
+pub mod PlainGuest
 pub mod Playable

@@ -1,7 +1,7 @@
 -- A text that is a script keeps the limits of scripts, and so whichever calls it has can be made.
-use Rattle.std.proofs.Common.{◌≡◌, ◌∙◌, ap, sym, subst, refl, ℕ, zero, suc, ◌+◌, ◌<◌, ◌≤◌, ◌==◌, ◌&&◌, ◌||◌, not, nat_lt, nat_le, Bool, true, false, true≢false, List, [], ◌∷◌, ◌++◌, length, take, slice_get, Option, Some, None, Ok, arith}
+use Rattle.std.proofs.Common.{◌≡◌, ◌⊎◌, inl, inr, ◌∙◌, ap, sym, subst, refl, ℕ, zero, suc, ◌+◌, ◌<◌, ◌≤◌, ◌==◌, ◌&&◌, ◌||◌, not, nat_lt, nat_le, Bool, true, false, true≢false, List, [], ◌∷◌, ◌++◌, length, take, slice_get, Option, Some, None, Ok, arith}
 use Rattle.std.proofs.lemmas.Grind.{common_steps}
-use Rattle.std.proofs.lemmas.Bool.{and_parts}
+use Rattle.std.proofs.lemmas.Bool.{and_parts, eqb-true}
 use Rattle.std.proofs.lemmas.List.{append-nil}
 use Rattle.std.proofs.lemmas.List.Sums.{sum_by-cons}
 use Rattle.std.specs.List.{AllByRecursion, IsDistinct, list_any, list_all, sum_by}
@@ -19,13 +19,13 @@ use Rattle.dax_script.specs.declared.scripts.FileLine.{FileLine}
 use Rattle.dax_script.specs.declared.scripts.Script.{Script}
 use Rattle.dax_script.specs.Fits.{call_fits, calls_fit, file_fits, files_fit, fits}
 use Rattle.dax_script.specs.ScriptWords.{is_called, is_script_name, is_ranges, is_writing, held_mode, hold_modes}
-use Rattle.dax_script.specs.ScriptText.{are_few, has_window, script_of}
+use Rattle.dax_script.specs.ScriptText.{are_few, has_window, max_guests, script_of}
 use Rattle.dax_script.proofs.TextFits.{fits_exactly}
 use Rattle.guest_run.specs.Runs.{IsAskedBefore}
 use Rattle.guest_run.specs.Working as working
 use Rattle.guest_run.specs.Working.{IsCall, IsForWriting}
 use Rattle.guest_run.proofs.Places.{none_is, some_is, found, all_push}
-use Rattle.daxrun.specs.Carried.{names_of, is_carried_out, AreRanges, IsPlayable}
+use Rattle.daxrun.specs.Carried.{names_of, AreRanges, IsPlayable}
 
 -- ---- files
 
@@ -182,7 +182,7 @@ low a b e = grind (arith, common_steps)
 least : (a b : ℕ) → nat_le a b ≡ true → a ≤ b
 least a b e = grind (arith, common_steps)
 
-call_within : (files : List FileLine) (ranges : ℕ) (cs : List Call) (n : ℕ) (c : Call) → call_fits files (hold_modes (take n cs)) c ≡ true → has_window ranges c ≡ true → IsCall (length files) ranges true cs n c
+call_within : (files : List FileLine) (ranges : ℕ) (cs : List Call) (n : ℕ) (c : Call) → call_fits files (hold_modes (take n cs)) c ≡ true → has_window ranges c ≡ true → IsCall (length files) ranges cs n c
 unfolding call_fits IsCall is_hold
 call_within files ranges cs n (calls.Read file off len) e w =
     let a = and_parts (nat_lt file (length files)) _ e in
@@ -209,7 +209,7 @@ call_within files ranges cs n (calls.Hold file chunk md) e w =
     let few = low (length held) 32 a.1 in
     let many = as_many 0 (take n cs) in
     let small = least chunk 31 b.1 in
-    (low file (length files) b.0, omega (arith, small), some_window ranges w, refl, omega (arith, few, many))
+    (low file (length files) b.0, omega (arith, small), some_window ranges w, omega (arith, few, many))
 call_within files ranges cs n (calls.Load h off len) e w =
     let held = hold_modes (take n cs) in
     let a = and_parts (nat_lt h (length held)) _ e in
@@ -261,8 +261,10 @@ record Limited (s : Script) : Type 0 where
   ranges : is_ranges s.ranges ≡ true
   few_files : nat_le (length s.files) max_files ≡ true
   files : files_fit [] s.files ≡ true
+  few_guests : nat_le (length s.guests) max_guests ≡ true
   calls : list_all (calls_fit s.files s.ranges []) s.guests ≡ true
   few : are_few s.guests ≡ true
+  background : (not (s.ranges == 0) || s.background == 0) ≡ true
 
 limited : (s : Script) → fits s ≡ true → Limited s
 unfolding fits
@@ -274,18 +276,19 @@ limited s e =
     let f = and_parts _ (nat_le (length s.files) max_files) d.0 in
     let g = and_parts _ (not (s.ranges == 0) || s.background == 0) f.0 in
     let h = and_parts (is_ranges s.ranges) _ g.0 in
-    record { ranges = h.0; few_files = f.1; files = d.1; calls = b.1; few = a.1 }
+    record { ranges = h.0; few_files = f.1; files = d.1; few_guests = c.1; calls = b.1; few = a.1; background = g.1 }
 
 ranges_of : (n : ℕ) → is_ranges n ≡ true → AreRanges n
 ranges_of n e = record { most = grind (arith, common_steps); not_one = λ one. grind (arith, common_steps) }
 
-one_of : (s : Script) → is_carried_out s ≡ true → length s.guests ≤ 1
-unfolding is_carried_out
-one_of s h = grind (arith, common_steps)
+-- a background has ranges
+with_ranges : (ranges background : ℕ) → (not (ranges == 0) || background == 0) ≡ true → (background ≡ 0) ⊎ (0 < ranges)
+with_ranges zero background e = inl (eqb-true background 0 e)
+with_ranges (suc r) background e = inr (omega arith)
 
-pub playable : (text : List ℕ) (s : Script) → script_of text ≡ Ok s → is_carried_out s ≡ true → IsPlayable s
+pub playable : (text : List ℕ) (s : Script) → script_of text ≡ Ok s → IsPlayable s
 unfolding IsDistinct
-playable text s reads carried =
+playable text s reads =
     let k = limited s ((fits_exactly s).1 (text, reads)) in
     let fs = fitting_all [] s.files (record { named = tt; different = tt; small = tt }) k.files in
     let few = few_of s.guests k.few in
@@ -293,11 +296,12 @@ playable text s reads carried =
       ranges = ranges_of s.ranges k.ranges;
       files = record { few = least (length s.files) max_files k.few_files; named = fs.named; different = fs.different; small = fs.small };
       guests = record {
-        one = one_of s carried;
+        most = least (length s.guests) max_guests k.few_guests;
         few = λ g cs at. let l = length_below s.guests g cs at in omega (arith, l, few);
         calls = λ g cs at n c at'.
             let fit = all_true (calls_fit s.files s.ranges []) s.guests g cs k.calls at in
             let x = call_at s.files s.ranges [] cs n c fit at' in
             call_within s.files s.ranges cs n c x.0 x.1;
       };
+      background = with_ranges s.ranges s.background k.background;
     }

@@ -20,7 +20,6 @@ use Rattle.dax_audit.specs.Tables.{log_in}
 use Rattle.transcript_text.specs.TranscriptText.{text_of}
 use Rattle.transcript_text.specs.TranscriptReading.{transcript_of}
 use Rattle.guest_run.specs.Working.{AllDone, IsFair}
-use Rattle.daxrun.specs.Carried.{is_carried_out}
 
 -- the most bytes that are read
 abbrev pub limit : ℕ
@@ -44,39 +43,35 @@ too_long_line = codes "too long\n"
 abbrev pub refused_line : BadLine → List ℕ
 refused_line bad = line (codes "refused" ∷ codes "line" ∷ decimal bad.line ∷ why_word bad.why ∷ [])
 
--- a script that isn't carried out yet
-abbrev pub later_line : List ℕ
-later_line = codes "refused later\n"
-
--- the line that refuses a text, by what it reads as; None where it is a script that is carried out
+-- the line that refuses a text, by what it reads as; None where it is a script
 abbrev pub refusal : Result Script BadLine → Option (List ℕ)
-refusal (Ok s) = if is_carried_out s then None else Some later_line
+refusal (Ok s) = None
 refusal (Err bad) = Some (refused_line bad)
 
 -- ---- what is due
 
--- The lines of each guest are fair: a truncation is refused exactly for the guest's own holds on the file, and where no range could be taken, its own holds have them, and none is on a chunk that the call needs.
-pub record AreFair (script : Script) (t : Transcript) : Type 0 where
-  pub each : (g : ℕ) (cs : List Call) (part : GuestPart) → slice_get script.guests g ≡ Some cs → slice_get t.guests g ≡ Some part → IsFair script.ranges (log_in t) cs part.lines
+-- The lines of a guest that is alone, without a background, are fair: a truncation is refused exactly for the guest's own holds on the file, and where no range could be taken, its own holds have them, and none is on a chunk that the call needs.
+pub record IsFairAlone (script : Script) (t : Transcript) : Type 0 where
+  pub each : script.background ≡ 0 → length script.guests ≡ 1 → (g : ℕ) (cs : List Call) (part : GuestPart) → slice_get script.guests g ≡ Some cs → slice_get t.guests g ≡ Some part → IsFair script.ranges (log_in t) cs part.lines
 
--- each line says that its call is done, of each guest that asks for no hold
-pub record AllLinesDone (script : Script) (t : Transcript) : Type 0 where
-  pub each : (g : ℕ) (cs : List Call) (part : GuestPart) → slice_get script.guests g ≡ Some cs → slice_get t.guests g ≡ Some part → hold_places 0 cs ≡ [] → AllDone part.lines
+-- Each line says that its call is done: without ranges, those of all guests; of a guest that is alone, without a background, where it asks for no hold.
+pub record AreLinesDone (script : Script) (t : Transcript) : Type 0 where
+  pub without : script.ranges ≡ 0 → (g : ℕ) (cs : List Call) (part : GuestPart) → slice_get script.guests g ≡ Some cs → slice_get t.guests g ≡ Some part → AllDone part.lines
+  pub alone : script.background ≡ 0 → length script.guests ≡ 1 → (g : ℕ) (cs : List Call) (part : GuestPart) → slice_get script.guests g ≡ Some cs → slice_get t.guests g ≡ Some part → hold_places 0 cs ≡ [] → AllDone part.lines
 
--- The text is that of a transcript which is legal for the script, and it is read as this transcript. A call of a guest is done unless its own holds stand against it.
+-- The text is that of a transcript which is legal for the script, and it is read as this transcript. A call of a guest that is alone is done unless its own holds stand against it.
 pub record IsTextOf (script : Script) (text : List ℕ) : Type 0 where
   pub transcript : Transcript
   pub legal : IsLegal script transcript
-  pub fair : AreFair script transcript
-  pub done : AllLinesDone script transcript
+  pub fair : IsFairAlone script transcript
+  pub done : AreLinesDone script transcript
   pub writes : text ≡ text_of transcript
   pub determined : transcript_of text ≡ Ok transcript
 
--- the input is a script that is carried out, and the text is one of its transcripts
+-- the input is a script, and the text is one of its transcripts
 pub record Transcribes (input text : List ℕ) : Type 0 where
   pub script : Script
   pub reads : script_of input ≡ Ok script
-  pub carried : is_carried_out script ≡ true
   pub told : IsTextOf script text
 
 -- the text of an input that was read whole

@@ -1,24 +1,23 @@
 -- A session: its files are found and opened, one after another.
-use Rattle.std.specs.Prelude.{◌≡◌, ℕ, ◌+◌, ◌≤◌, true, List, [], length, map, replicate, slice_get, Some}
+use Rattle.std.specs.Prelude.{◌≡◌, ℕ, ◌+◌, ◌*◌, ◌≤◌, true, false, List, length, map, replicate, slice_get, Option, Some, None}
+use mathlib.Core.Option.{some}
+use lib.ListN.{get_elem?}
 use Rattle.plain_file.specs.File.{max_file}
 use Rattle.plain_file.specs.declared.operations.First.{First}
 use Rattle.plain_file.specs.Board.{BoardView, file_at, size_of}
+use Rattle.plain_file.specs.History.{Past}
 use Rattle.plain_file.specs.Limits.{max_files}
+use Rattle.plain_file.specs.Plain.{new_board}
+use Rattle.page_map.specs.Plain.{new_map, range_pages}
+use Rattle.page_map.specs.declared.ranges.LogEntry.{LogEntry}
 use Rattle.fuse_device.specs.State.{State, named, is_made}
 use Rattle.fuse_device.specs.Checks.{may_open}
 use Rattle.fuse_device.specs.OpenFiles.{HasOpenFile}
 use Rattle.guest_wire.specs.declared.driver.FileRef.{FileRef}
-use Rattle.guest_wire.specs.Wires.{WireView, Boards}
+use Rattle.guest_wire.specs.Wires.{WireView, Boards, boards}
 use Rattle.dax_script.specs.declared.scripts.FileLine.{FileLine}
+use Rattle.daxrun.specs.Carried.{names_of}
 use Rattle.daxrun.specs.Requests.{IsLive}
-use Rattle.plain_file.specs.declared.operations.Entry.{Entry}
-use Rattle.page_map.specs.declared.ranges.LogEntry.{LogEntry}
-use Rattle.dax_script.specs.declared.scripts.Call.{Call}
-use Rattle.dax_script.specs.declared.scripts.Script.{Script}
-use Rattle.dax_script.specs.Asks.{hold_places}
-use Rattle.transcript_text.specs.declared.transcripts.GuestPart.{GuestPart}
-use Rattle.guest_run.specs.Runs.{IsPart}
-use Rattle.guest_run.specs.Working.{IsFair, AllDone}
 
 -- a session over files of these names, of which so many were opened
 pub record IsSession (names : List (List ℕ)) (count : ℕ) (s : State) : Type 0 where
@@ -56,14 +55,18 @@ empty_firsts = replicate max_files (record { size = 0; fill = 0 })
 abbrev pub firsts_of : List FileLine → List First
 firsts_of fs = map (λ f. f.first) fs
 
--- the parts of all guests of a script are those of runs
-abbrev pub AreParts : Script → (ℕ → First) → (ℕ → List Entry) → (ℕ → List LogEntry) → List GuestPart → Type 0
-AreParts s first h logs parts = (g : ℕ) (cs : List Call) (part : GuestPart) → slice_get s.guests g ≡ Some cs → slice_get parts g ≡ Some part → IsPart s.ranges first h logs g cs part
+-- a wire of a daemon's own, as it is while the daemon is in this state
+abbrev pub whole_wire : State → WireView
+whole_wire s = record { honest = true; over = None; faults = 0; stays = false; state = s }
 
--- each guest's lines are fair, in these placement logs
-abbrev pub AreFairParts : Script → (ℕ → List LogEntry) → List GuestPart → Type 0
-AreFairParts s logs parts = (g : ℕ) (cs : List Call) (part : GuestPart) → slice_get s.guests g ≡ Some cs → slice_get parts g ≡ Some part → IsFair s.ranges logs cs part.lines
+-- the boards over which a session is opened and closed: empty files, and a window of so many ranges in which nothing is mapped
+abbrev pub opening_boards : ℕ → Boards
+opening_boards ranges = boards (new_board 0 empty_firsts) (new_map (range_pages * ranges))
 
--- each line of a guest that asks for no hold says that its call is done
-abbrev pub AreDoneParts : List (List Call) → List GuestPart → Type 0
-AreDoneParts guests parts = (g : ℕ) (cs : List Call) (part : GuestPart) → slice_get guests g ≡ Some cs → slice_get parts g ≡ Some part → hold_places 0 cs ≡ [] → AllDone part.lines
+-- a script's files are open at a daemon in this state, under these handles
+abbrev pub IsOpenAt : List FileLine → ℕ → List FileRef → State → Type 0
+IsOpenAt fs ranges ats s = IsOpened (names_of fs) ats (whole_wire s) (opening_boards ranges)
+
+-- the file has contents and a placement log in tables that were closed
+abbrev pub IsThereIn : List (Option Past) → List (Option (List LogEntry)) → ℕ → Type 0
+IsThereIn files trees f = ((p : Past) × (get_elem? files f ≡ some (Some p))) × ((log : List LogEntry) × (get_elem? trees f ≡ some (Some log)))

@@ -1,9 +1,11 @@
 use crate::run_tests::{answer_to, verdict_on};
 use dax_audit::Verdict;
+use guest_run::OpenGate;
 use program_io::Status;
-use std::alloc::{AllocError, Global};
+use std::alloc::Global;
 use std::sync::Wait;
 use std::test::Fail;
+use std::thread::Threads;
 
 // A truncation is refused for a hold, and done when the hold is given back.
 const LAYOUTS: &str =
@@ -26,8 +28,13 @@ const PAST_TOLD: &str =
     "transcript 1\nranges 2\nfile a 5 00\nentry 0 1 via 0 1\nlog place 0 in 0 w\nguest 0\n0 held 5 via 0 1\n1 done 0 wrote 2\n2 past 5\n3 released\n4 nohold\nend\n";
 
 // A script runs, its transcript is this one, and the audit finds no fault.
-fn runs<R: Wait>(rt: &R, alloc: Global, script: &str, told: &str) -> Result<bool, Fail> {
-    let (status, taken) = answer_to(rt, alloc, script.as_bytes())?;
+fn runs<R: Threads + Wait + Sync>(
+    rt: &R,
+    alloc: Global,
+    script: &str,
+    told: &str,
+) -> Result<bool, Fail> {
+    let (status, taken) = answer_to(rt, alloc, script.as_bytes(), &OpenGate)?;
     let verdict = verdict_on(alloc, script.as_bytes(), taken.as_slice())?;
     Ok(
         status == Status::Ok
@@ -83,32 +90,20 @@ fn holds_keep_what_they_hold(rt: HostRuntime) -> Result<(), Fail> {
     Ok(())
 }
 
-fn hold_calls(text: &mut String, holds: u32) -> Result<(), AllocError> {
-    for _hold in 0..holds {
-        text.push_str("hold a 0 r\n")?;
-    }
-    Ok(())
-}
-
-fn hold_lines(text: &mut String, holds: u32) -> Result<(), AllocError> {
-    for hold in 0..holds {
-        write!(text, "{hold} held 5 via 0 1\n")?;
-    }
-    Ok(())
-}
-
 // As many holds as a guest may ask for, all of one range.
 #[test]
 fn has_as_many_holds_as_may_be(rt: HostRuntime) -> Result<(), Fail> {
     let alloc = rt.alloc();
     let mut script = String::from_str(alloc, "ranges 2\nfile a 5\nguest\n")?;
-    hold_calls(&mut script, 32)?;
+    script.push_str("hold a 0 r\n".repeat(alloc, 32)?.as_str())?;
     script.push_str("truncate a 0\n")?;
     let mut told = String::from_str(
         alloc,
         "transcript 1\nranges 2\nfile a 5 00\nlog place 0 in 0 r\nguest 0\n",
     )?;
-    hold_lines(&mut told, 32)?;
+    for hold in 0..32 {
+        write!(told, "{hold} held 5 via 0 1\n")?;
+    }
     told.push_str("32 leased 32\nend\n")?;
     assert!(rt; runs(&rt, alloc, script.as_str(), told.as_str())?);
     Ok(())

@@ -10,6 +10,10 @@
 #![tactic(auto)]
 
 #[cfg(test)]
+mod gate_tests;
+#[cfg(test)]
+mod guest_tests;
+#[cfg(test)]
 mod hold_tests;
 #[cfg(test)]
 mod play_tests;
@@ -20,6 +24,7 @@ mod run_tests;
 mod runs;
 mod sessions;
 
+use guest_run::OpenGate;
 use plain_file::Memory;
 use program_io::{Status, StdSink, StdSource, command_words};
 use std::env;
@@ -34,6 +39,7 @@ fn main(rt: HostRuntime) -> ExitCode {
             words.as_slice(),
             &mut StdSource::new(rt.stdin()),
             &mut StdSink::new(rt.stdout()),
+            &OpenGate,
         ),
         Err(Memory) => Status::Memory,
     };

@@ -1,17 +1,22 @@
-ghost use Rattle.std.specs.Prelude.{◌≡◌, ◌*◌, true, false, [], length, IfSome};
+ghost use Rattle.std.specs.Prelude.{◌≡◌, ◌*◌, true, false, length, IfSome, IfOk};
+ghost use Rattle.plain_file.specs.Plain.{new_board};
 ghost use Rattle.page_map.specs.Plain.{range_pages};
 ghost use Rattle.fuse_device.specs.State.{new_state};
-ghost use Rattle.guest_wire.specs.Wires.{Boards};
-ghost use Rattle.daxrun.specs.Carried.{names_of, IsPlayable};
-ghost use Rattle.daxrun.specs.Session.{IsOpened};
+ghost use Rattle.range_tree.specs.Plain.{new_ranges};
+ghost use Rattle.guest_io.specs.Holds.{no_holds};
+ghost use Rattle.daxrun.specs.Carried.{names_of, AreFiles, AreRanges, IsPlayable};
+ghost use Rattle.daxrun.specs.Session.{IsOpenAt, firsts_of};
 
-use crate::plays::play_calls;
 use crate::run_tests::{FOUR, RECLAIM, UPGRADE};
-use crate::runs::is_carried_out;
-use crate::sessions::{daemon_of, end_session, opening_board, start_session};
+use crate::sessions::{
+    daemon_of, end_session, firsts_of, open_session, opening_board, start_session,
+};
 use dax_host::SoloWire;
-use dax_script::{Script, parse};
+use dax_script::{FileLine, Script, parse};
 use fuse_wire::InHeader;
+use guest_dax::Dax;
+use guest_io::Guest;
+use guest_run::{OpenGate, worker};
 use guest_wire::{Driver, FileRef, KeepWire, Wire};
 use page_map::{PAGES_OF_RANGE, PageMap};
 use plain_file::{Blob, List, Memory, PlainFiles};
@@ -21,35 +26,37 @@ use std::process::Abort;
 use std::sync::Wait;
 use std::test::Fail;
 
-// The script of a text, where it is carried out.
+// The script of a text.
 fn script_in(alloc: Global, text: &[u8]) -> Option<Script>
     ensures { IfSome result IsPlayable }
 {
     let Ok(script) = parse(alloc, text) else {
         return None;
     };
-    if !is_carried_out(&script) {
-        return None;
-    }
     Some(script)
 }
 
-// The requests that open and close the session of a script.
-fn session<R: Wait>(rt: &R, alloc: Global, script: &Script) -> Result<List<Blob>, Memory>
+// The requests that open and close the session of a script have these opcodes.
+fn session<R: Wait + Abort>(
+    rt: &R,
+    alloc: Global,
+    script: &Script,
+    opcodes: &[u32],
+) -> Result<(), Memory>
     requires { IsPlayable script.now }
 {
-    let mut daemon = daemon_of(alloc, script)?;
-    let solo = SoloWire::new(alloc, &mut daemon)?;
+    let solo = SoloWire::new(alloc, daemon_of(alloc, script)?)?;
     let client = Driver::new(KeepWire::new(alloc, solo));
-    session_by(rt, alloc, script, client)
+    session_by(rt, alloc, script, client, opcodes)
 }
 
-fn session_by<R: Wait, W>(
+fn session_by<R: Wait + Abort, W>(
     rt: &R,
     alloc: Global,
     script: &Script,
     client: Driver<KeepWire<W>>,
-) -> Result<List<Blob>, Memory>
+    opcodes: &[u32],
+) -> Result<(), Memory>
 where
     W: Wire<PlainFiles, PageMap> + Drop,
     requires playable { IsPlayable script.now }
@@ -62,63 +69,82 @@ where
     let lines = script.files.as_slice();
     let (client, opened) = start_session(rt, alloc, client, lines, &mut files, &mut map)?;
     let client = end_session(rt, alloc, client, opened.as_slice(), &mut files, &mut map);
-    copies(alloc, client.wire.requests().as_slice())
+    check_headers(rt, client.wire.requests().as_slice(), opcodes);
+    Ok(())
 }
 
-// The requests of the calls of a script's guest.
-fn calls<R: Wait>(rt: &R, alloc: Global, script: &Script) -> Result<List<Blob>, Memory>
-    requires { IsPlayable script.now }
-{
-    let mut daemon = daemon_of(alloc, script)?;
-    let client = Driver::new(SoloWire::new(alloc, &mut daemon)?);
-    let mut files = opening_board(alloc)?;
-    let mut map = PageMap::new(alloc, PAGES_OF_RANGE * script.ranges)?;
-    let lines = script.files.as_slice();
-    let (client, opened) = start_session(rt, alloc, client, lines, &mut files, &mut map)?;
-    calls_by(rt, alloc, script, client, opened.as_slice())
-}
-
-fn calls_by<R: Wait, W>(
+// The requests of the calls of a script's first guest, over boards of its own, have these opcodes.
+fn calls<R: Wait + Abort>(
     rt: &R,
     alloc: Global,
     script: &Script,
-    client: Driver<W>,
-    opened: &[FileRef],
-) -> Result<List<Blob>, Memory>
+    opcodes: &[u32],
+) -> Result<(), Memory>
+    requires { IsPlayable script.now }
+{
+    let daemon = daemon_of(alloc, script)?;
+    let lines = script.files.as_slice();
+    let (daemon, opened) = open_session(rt, alloc, lines, script.ranges, daemon)?;
+    let wire = KeepWire::new(alloc, SoloWire::new(alloc, daemon)?);
+    calls_by(rt, alloc, script, Driver::new(wire), opened, opcodes)
+}
+
+fn calls_by<R: Wait + Abort, W>(
+    rt: &R,
+    alloc: Global,
+    script: &Script,
+    client: Driver<KeepWire<W>>,
+    opened: Vec<FileRef>,
+    opcodes: &[u32],
+) -> Result<(), Memory>
 where
     W: Wire<PlainFiles, PlainRanges> + Drop,
     requires playable { IsPlayable script.now }
-    requires count { length opened.now ≡ length script.now.files }
-    requires opened { (b : Boards) × IsOpened (names_of script.now.files) opened.now (W.wire client.wire) b × (length b.map.table ≡ range_pages * script.now.ranges) }
+    requires count { length opened.items ≡ length script.now.files }
+    requires honest { (W.wire client.wire.inner).honest ≡ true }
+    requires whole { (W.wire client.wire.inner).stays ≡ false }
+    requires opened { IsOpenAt script.now.files script.now.ranges opened.items (W.wire client.wire.inner).state }
 {
-    let client = keeping(alloc, client);
-    let played = play_calls(rt, alloc, script, client, opened)?;
-    copies(alloc, played.client.wire.requests().as_slice())
+    let lines = script.files.as_slice();
+    let mut guest = guest_of(alloc, lines, script.ranges, client, opened)?;
+    let [calls, ..] = script.guests.as_slice() else {
+        panic!(rt; "no guest")
+    };
+    let _lines = worker(rt, alloc, &mut guest, calls.as_slice(), 0, &OpenGate)?;
+    let (client, _files, _ranges) = guest.finish().into_parts();
+    check_headers(rt, client.wire.requests().as_slice(), opcodes);
+    Ok(())
 }
 
-// The client, over a wire that keeps the requests from here on.
-fn keeping<W>(alloc: Global, client: Driver<W>) -> Driver<KeepWire<W>>
-    ensures { result.wire ≡ record { inner = client.wire; requests = [] } }
+// Guest 0 with these open files, and with ranges of which none was taken.
+fn guest_of<W>(
+    alloc: Global,
+    lines: &[FileLine],
+    ranges: u32,
+    client: Driver<W>,
+    opened: Vec<FileRef>,
+) -> Result<Guest<W, PlainFiles, PlainRanges>, Memory>
+where
+    W: Drop,
+    requires files { AreFiles lines.now }
+    requires ranges { AreRanges ranges }
+    ensures driver { IfOk result (λ g. g.dax.driver ≡ client) }
+    ensures files { IfOk result (λ g. g.dax.files ≡ new_board 0 (firsts_of lines.now)) }
+    ensures ranges { IfOk result (λ g. g.dax.ranges ≡ new_ranges ranges (length lines.now) 0) }
+    ensures refs { IfOk result (λ g. g.dax.refs ≡ opened.items) }
+    ensures holds { IfOk result (λ g. g.holds ≡ no_holds) }
 {
-    let Driver { wire, unique } = client;
-    Driver {
-        wire: KeepWire::new(alloc, wire),
-        unique,
-    }
+    let firsts = firsts_of(alloc, lines)?;
+    let board = PlainFiles::new(alloc, 0, &firsts)?;
+    let ranges = PlainRanges::new(alloc, ranges, lines.len() as u32, 0)?;
+    let refs = List::from_vec(opened);
+    Ok(Guest::new(Dax::new(client, board, ranges, refs)))
 }
 
-fn copies(alloc: Global, requests: &[Blob]) -> Result<List<Blob>, Memory> {
-    let mut list = List::new(alloc);
-    for request in requests {
-        list.push(request.clone()?)?;
-    }
-    Ok(list)
-}
-
-// Each request has its number and its opcode.
-fn check_headers(rt: &impl Abort, requests: &[Blob], from: u64, opcodes: &[u32]) {
+// Each request has its number, from 1 on, and its opcode.
+fn check_headers(rt: &impl Abort, requests: &[Blob], opcodes: &[u32]) {
     assert_eq!(rt; requests.len(), opcodes.len());
-    let mut number = from;
+    let mut number = 1;
     for (request, opcode) in requests.iter().zip(opcodes) {
         let Some(header) = request
             .as_slice()
@@ -139,8 +165,7 @@ fn opens_and_closes(rt: HostRuntime) -> Result<(), Fail> {
     let Some(script) = script_in(alloc, FOUR.as_bytes()) else {
         panic!(&rt; "no script")
     };
-    let requests = session(&rt, alloc, &script)?;
-    check_headers(&rt, requests.as_slice(), 1, &[26, 1, 14, 1, 14, 18, 18, 38]);
+    session(&rt, alloc, &script, &[26, 1, 14, 1, 14, 18, 18, 38])?;
     Ok(())
 }
 
@@ -149,21 +174,19 @@ fn opens_and_closes(rt: HostRuntime) -> Result<(), Fail> {
 #[test]
 fn sends_what_calls_need(rt: HostRuntime) -> Result<(), Fail> {
     let alloc = rt.alloc();
-    for (text, from, opcodes) in [
-        (FOUR, 6, [3, 16, 16, 15, 15, 3, 3].as_slice()),
-        (RECLAIM, 4, [48, 48, 49, 48].as_slice()),
-        (UPGRADE, 4, [48, 48].as_slice()),
+    for (text, opcodes) in [
+        (FOUR, [3, 16, 16, 15, 15, 3, 3].as_slice()),
+        (RECLAIM, [48, 48, 49, 48].as_slice()),
+        (UPGRADE, [48, 48].as_slice()),
         (
             "ranges 2\nfile a 0\nguest\nwrite a 0 61\nread a 0 1\nread a 0 9\nwrite a 0 62\nsize a\n",
-            4,
             [16, 48, 48, 3].as_slice(),
         ),
     ] {
         let Some(script) = script_in(alloc, text.as_bytes()) else {
             panic!(&rt; "no script")
         };
-        let requests = calls(&rt, alloc, &script)?;
-        check_headers(&rt, requests.as_slice(), from, opcodes);
+        calls(&rt, alloc, &script, opcodes)?;
     }
     Ok(())
 }

@@ -1,11 +1,13 @@
 use crate::runs::run;
 use dax_audit::{Verdict, audit};
 use dax_script::parse as parse_script;
+use guest_run::{Gate, OpenGate};
 use plain_file::{Blob, List, Memory};
 use program_io::{MemSink, MemSource, Status, SureSink, SureSource, Word};
 use std::alloc::{AllocError, Global};
 use std::sync::Wait;
 use std::test::Fail;
+use std::thread::Threads;
 use transcript_text::parse as parse_transcript;
 
 // One guest that writes a file and reads it.
@@ -34,27 +36,14 @@ pub const UPGRADE: &str = "ranges 2\nfile a 8\nguest\nread a 0 1\nwrite a 0 ff\n
 const UPGRADE_TOLD: &str =
     "transcript 1\nranges 2\nfile a 8 00\nentry 0 0 via 0 1\nentry 0 1 via 0 2\nlog place 0 in 0 r\nlog upgrade 0\nguest 0\n0 done 0 bytes 00\n1 done 1 wrote 1\nend\n";
 
-const LATER: &str = "refused later\n";
-
 const USAGE: &str = "usage: daxrun script | load N\n";
 
-/// What a source and a sink do: how many bytes a call gives or takes at the most, 0 for no bound,
-/// and the call that fails, 0 for none.
+/// What a source and a sink do: how many bytes a call gives or takes at the most, 0 for no bound, and the call
+/// that fails, 0 for none.
 #[derive(Clone, Copy)]
-struct Ends {
-    piece: u32,
-    fails: u64,
-}
+struct Ends(u32, u64);
 
-const SURE: Ends = Ends { piece: 0, fails: 0 };
-
-fn calls(alloc: Global, fails: u64) -> Result<List<u64>, Memory> {
-    let mut calls = List::new(alloc);
-    if fails != 0 {
-        calls.push(fails)?;
-    }
-    Ok(calls)
-}
+const SURE: Ends = Ends(0, 0);
 
 fn words_of(alloc: Global, words: &[&[u8]]) -> Result<List<Word>, Memory> {
     let mut list = List::new(alloc);
@@ -65,23 +54,31 @@ fn words_of(alloc: Global, words: &[&[u8]]) -> Result<List<Word>, Memory> {
 }
 
 // The status of a run with these words over bytes in memory, and what was taken.
-fn ran<R: Wait>(
+fn ran<R: Threads + Wait + Sync, G: Gate + Sync>(
     rt: &R,
     alloc: Global,
     words: &[&[u8]],
     input: Blob,
     from: Ends,
     to: Ends,
+    gate: &G,
 ) -> Result<(Status, Blob), Fail> {
     let words = words_of(alloc, words)?;
-    let mut source = MemSource::new(input, from.piece, calls(alloc, from.fails)?);
-    let mut sink = MemSink::new(alloc, to.piece, calls(alloc, to.fails)?);
-    let status = run(rt, alloc, words.as_slice(), &mut source, &mut sink);
+    let Ends(piece, fails) = from;
+    let mut source = MemSource::new(input, piece, List::from_vec(vec![in alloc; fails; 1]?));
+    let Ends(piece, fails) = to;
+    let mut sink = MemSink::new(alloc, piece, List::from_vec(vec![in alloc; fails; 1]?));
+    let status = run(rt, alloc, words.as_slice(), &mut source, &mut sink, gate);
     Ok((status, sink.bytes().clone()?))
 }
 
-/// The status of `script` over a text, and what was written.
-pub fn answer_to<R: Wait>(rt: &R, alloc: Global, text: &[u8]) -> Result<(Status, Blob), Fail> {
+/// The status of `script` over a text, its guests' calls through this gate, and what was written.
+pub fn answer_to<R: Threads + Wait + Sync, G: Gate + Sync>(
+    rt: &R,
+    alloc: Global,
+    text: &[u8],
+    gate: &G,
+) -> Result<(Status, Blob), Fail> {
     ran(
         rt,
         alloc,
@@ -89,6 +86,7 @@ pub fn answer_to<R: Wait>(rt: &R, alloc: Global, text: &[u8]) -> Result<(Status,
         Blob::copy_of(alloc, text)?,
         SURE,
         SURE,
+        gate,
     )
 }
 
@@ -134,6 +132,12 @@ fn writes_transcripts(rt: HostRuntime) -> Result<(), Fail> {
         (RECLAIM, RECLAIM_TOLD),
         (UPGRADE, UPGRADE_TOLD),
         ("ranges 2\n", "transcript 1\nranges 2\nend\n"),
+        ("ranges 2\nbackground 3\n", "transcript 1\nranges 2\nend\n"),
+        // Guests on files of their own, and one that makes no call.
+        (
+            "ranges 0\nfile a 1 61\nfile b 1 62\nguest\nread a 0 1\nsize a\nguest\nguest\nwrite b 1 63\nread b 0 9\n",
+            "transcript 1\nranges 0\nfile a 1 61\nentry 0 0 req\nentry 0 1 req\nfile b 1 62\nentry 2 0 req\nentry 2 1 req\nguest 0\n0 done 0 bytes 61\n1 done 1 size 1\nguest 1\nguest 2\n0 done 0 wrote 1\n1 done 1 bytes 6263\nend\n",
+        ),
         // A write that ends at the size goes through the window, one that ends above it is a request.
         (
             "ranges 2\nfile a 5\nguest\nwrite a 2 616263\nwrite a 3 616263\nread a 0 9\n",
@@ -160,7 +164,7 @@ fn writes_transcripts(rt: HostRuntime) -> Result<(), Fail> {
             "transcript 1\nranges 0\nfile big 67108864 00\nentry 0 0 req\nentry 0 1 req\nentry 0 2 req\nguest 0\n0 done 0 bytes 00000000\n1 done 1 wrote 1\n2 done 2 bytes 0001\nend\n",
         ),
     ] {
-        let (status, taken) = answer_to(&rt, rt.alloc(), script.as_bytes())?;
+        let (status, taken) = answer_to(&rt, rt.alloc(), script.as_bytes(), &OpenGate)?;
         assert_eq!(rt; status, Status::Ok, "{script}");
         assert_eq!(rt; taken.as_slice(), transcript.as_bytes(), "{script}");
         let verdict = verdict_on(rt.alloc(), script.as_bytes(), taken.as_slice())?;
@@ -178,11 +182,9 @@ fn reads_over_the_seam(rt: HostRuntime) -> Result<(), Fail> {
         alloc,
         "transcript 1\nranges 2\nfile a 4194304 00\nentry 0 0 via 0 1 1 2\nlog place 0 in 0 r\nlog place 1 in 1 r\nguest 0\n0 done 0 bytes ",
     )?;
-    for _byte in 0..1_048_576 {
-        told.push_str("00")?;
-    }
+    told.push_str("00".repeat(alloc, 1_048_576)?.as_str())?;
     told.push_str("\nend\n")?;
-    let (status, taken) = answer_to(&rt, alloc, script.as_bytes())?;
+    let (status, taken) = answer_to(&rt, alloc, script.as_bytes(), &OpenGate)?;
     assert_eq!(rt; status, Status::Ok);
     assert!(rt; taken.as_slice() == told.as_bytes());
     let verdict = verdict_on(alloc, script.as_bytes(), taken.as_slice())?;
@@ -190,8 +192,7 @@ fn reads_over_the_seam(rt: HostRuntime) -> Result<(), Fail> {
     Ok(())
 }
 
-// Texts that are no script, with their first bad line and its first reason, and scripts that aren't carried
-// out yet.
+// Texts that are no script, with their first bad line and its first reason.
 #[test]
 fn refuses_texts(rt: HostRuntime) -> Result<(), Fail> {
     for (text, line) in [
@@ -220,44 +221,33 @@ fn refuses_texts(rt: HostRuntime) -> Result<(), Fail> {
             "refused line 4 mode\n",
         ),
         ("ranges 0\nguest\nrelease 0\n", "refused line 3 hold\n"),
-        ("ranges 2\nbackground 3\n", LATER),
-        ("ranges 2\nguest\nguest\n", LATER),
-        ("ranges 0\nguest\nguest\n", LATER),
         (
             "ranges 0\nfile a 0\nguest\nhold a 0 r\n",
             "refused line 4 window\n",
         ),
     ] {
-        let (status, taken) = answer_to(&rt, rt.alloc(), text.as_bytes())?;
+        let (status, taken) = answer_to(&rt, rt.alloc(), text.as_bytes(), &OpenGate)?;
         assert_eq!(rt; status, Status::Refused, "{text}");
         assert_eq!(rt; taken.as_slice(), line.as_bytes(), "{text}");
     }
     Ok(())
 }
 
-fn pattern_calls(text: &mut String, from: u32, to: u32) -> Result<(), AllocError> {
-    for place in from..to {
-        let byte = place % 256;
-        write!(text, "write a {place} {byte:02x}\nread a {place} 2\n")?;
-    }
-    Ok(())
-}
-
-fn pattern_entries(text: &mut String, calls: u32) -> Result<(), AllocError> {
-    for call in 0..calls {
-        write!(text, "entry 0 {call} req\n")?;
-    }
-    Ok(())
-}
-
-fn pattern_lines(text: &mut String, calls: u32) -> Result<(), AllocError> {
-    for call in 0..calls {
-        let byte = (call / 2) % 256;
-        if call % 2 == 0 {
-            write!(text, "{call} done {call} wrote 1\n")?;
-        } else {
-            write!(text, "{call} done {call} bytes {byte:02x}\n")?;
-        }
+// 500 writes, each with a read after it; the entries and the lines that they make.
+fn pattern(
+    script: &mut String,
+    entries: &mut String,
+    lines: &mut String,
+) -> Result<(), AllocError> {
+    for place in 0..500_u32 {
+        let (byte, call) = (place % 256, place.wrapping_mul(2));
+        let next = call.wrapping_add(1);
+        write!(script, "write a {place} {byte:02x}\nread a {place} 2\n")?;
+        write!(entries, "entry 0 {call} req\nentry 0 {next} req\n")?;
+        write!(
+            lines,
+            "{call} done {call} wrote 1\n{next} done {next} bytes {byte:02x}\n"
+        )?;
     }
     Ok(())
 }
@@ -267,35 +257,14 @@ fn pattern_lines(text: &mut String, calls: u32) -> Result<(), AllocError> {
 fn writes_what_a_formula_says(rt: HostRuntime) -> Result<(), Fail> {
     let alloc = rt.alloc();
     let mut script = String::from_str(alloc, "ranges 0\nfile a 0\nguest\n")?;
-    pattern_calls(&mut script, 0, 500)?;
     let mut told = String::from_str(alloc, "transcript 1\nranges 0\nfile a 0 00\n")?;
-    pattern_entries(&mut told, 1000)?;
-    told.push_str("guest 0\n")?;
-    pattern_lines(&mut told, 1000)?;
+    let mut lines = String::from_str(alloc, "guest 0\n")?;
+    pattern(&mut script, &mut told, &mut lines)?;
+    told.push_str(lines.as_str())?;
     told.push_str("end\n")?;
-    let (status, taken) = answer_to(&rt, alloc, script.as_bytes())?;
+    let (status, taken) = answer_to(&rt, alloc, script.as_bytes(), &OpenGate)?;
     assert_eq!(rt; status, Status::Ok);
     assert!(rt; taken.as_slice() == told.as_bytes());
-    Ok(())
-}
-
-#[test]
-fn reads_and_writes_in_any_pieces(rt: HostRuntime) -> Result<(), Fail> {
-    let alloc = rt.alloc();
-    for (from, to) in [(1, 1), (7, 3), (0, 50), (64, 0)] {
-        let input = Blob::copy_of(alloc, HELLO.as_bytes())?;
-        let from = Ends {
-            piece: from,
-            fails: 0,
-        };
-        let to = Ends {
-            piece: to,
-            fails: 0,
-        };
-        let (status, taken) = ran(&rt, alloc, &[b"script".as_slice()], input, from, to)?;
-        assert_eq!(rt; status, Status::Ok);
-        assert_eq!(rt; taken.as_slice(), HELLO_TOLD.as_bytes());
-    }
     Ok(())
 }
 
@@ -312,7 +281,7 @@ fn refuses_words(rt: HostRuntime) -> Result<(), Fail> {
         [b"\xff\xfe".as_slice()].as_slice(),
     ] {
         let input = Blob::copy_of(alloc, HELLO.as_bytes())?;
-        let (status, taken) = ran(&rt, alloc, words, input, SURE, SURE)?;
+        let (status, taken) = ran(&rt, alloc, words, input, SURE, SURE, &OpenGate)?;
         assert_eq!(rt; status, Status::Usage, "{words:?}");
         assert_eq!(rt; taken.as_slice(), USAGE.as_bytes());
     }
@@ -327,62 +296,144 @@ fn reads_to_its_limit(rt: HostRuntime) -> Result<(), Fail> {
         (16_777_217, Status::TooLong, "too long\n"),
     ] {
         let input = Blob::from_vec(vec![in alloc; b' '; spaces]?);
-        let (got, taken) = ran(&rt, alloc, &[b"script".as_slice()], input, SURE, SURE)?;
+        let (got, taken) = ran(
+            &rt,
+            alloc,
+            &[b"script".as_slice()],
+            input,
+            SURE,
+            SURE,
+            &OpenGate,
+        )?;
         assert_eq!(rt; got, status);
         assert_eq!(rt; taken.as_slice(), text.as_bytes());
     }
     Ok(())
 }
 
-// The text is read in four pieces, and a fifth call finds the end.
+// In any pieces, and where a source or a sink fails. The text is read in four pieces of 16 bytes, and a fifth call
+// finds the end.
 #[test]
-fn a_source_fails_at_each_call(rt: HostRuntime) -> Result<(), Fail> {
+fn sources_and_sinks_go_in_pieces_and_fail(rt: HostRuntime) -> Result<(), Fail> {
     let alloc = rt.alloc();
-    for (call, status, len) in [
-        (1, Status::ReadFault, 0),
-        (2, Status::ReadFault, 0),
-        (3, Status::ReadFault, 0),
-        (4, Status::ReadFault, 0),
-        (5, Status::ReadFault, 0),
-        (6, Status::Ok, HELLO_TOLD.len()),
-    ] {
-        let input = Blob::copy_of(alloc, HELLO.as_bytes())?;
-        let from = Ends {
-            piece: 16,
-            fails: call,
-        };
-        let (got, taken) = ran(&rt, alloc, &[b"script".as_slice()], input, from, SURE)?;
-        assert_eq!(rt; (got, taken.len()), (status, len), "call {call}");
-    }
-    Ok(())
-}
-
-#[test]
-fn a_sink_fails(rt: HostRuntime) -> Result<(), Fail> {
-    let alloc = rt.alloc();
-    for (words, text, to, taken) in [
+    for (words, text, from, to, status, taken) in [
         (
             b"script".as_slice(),
             HELLO,
-            Ends {
-                piece: 10,
-                fails: 2,
-            },
+            Ends(1, 0),
+            Ends(1, 0),
+            Status::Ok,
+            HELLO_TOLD,
+        ),
+        (
+            b"script".as_slice(),
+            HELLO,
+            Ends(7, 0),
+            Ends(3, 0),
+            Status::Ok,
+            HELLO_TOLD,
+        ),
+        (
+            b"script".as_slice(),
+            HELLO,
+            SURE,
+            Ends(50, 0),
+            Status::Ok,
+            HELLO_TOLD,
+        ),
+        (
+            b"script".as_slice(),
+            HELLO,
+            Ends(64, 0),
+            SURE,
+            Status::Ok,
+            HELLO_TOLD,
+        ),
+        (
+            b"script".as_slice(),
+            HELLO,
+            Ends(16, 1),
+            SURE,
+            Status::ReadFault,
+            "",
+        ),
+        (
+            b"script".as_slice(),
+            HELLO,
+            Ends(16, 2),
+            SURE,
+            Status::ReadFault,
+            "",
+        ),
+        (
+            b"script".as_slice(),
+            HELLO,
+            Ends(16, 3),
+            SURE,
+            Status::ReadFault,
+            "",
+        ),
+        (
+            b"script".as_slice(),
+            HELLO,
+            Ends(16, 4),
+            SURE,
+            Status::ReadFault,
+            "",
+        ),
+        (
+            b"script".as_slice(),
+            HELLO,
+            Ends(16, 5),
+            SURE,
+            Status::ReadFault,
+            "",
+        ),
+        (
+            b"script".as_slice(),
+            HELLO,
+            Ends(16, 6),
+            SURE,
+            Status::Ok,
+            HELLO_TOLD,
+        ),
+        (
+            b"script".as_slice(),
+            HELLO,
+            SURE,
+            Ends(10, 2),
+            Status::WriteFault,
             "transcript",
         ),
-        (b"script".as_slice(), HELLO, Ends { piece: 0, fails: 1 }, ""),
+        (
+            b"script".as_slice(),
+            HELLO,
+            SURE,
+            Ends(0, 1),
+            Status::WriteFault,
+            "",
+        ),
         (
             b"script".as_slice(),
             "ranges 1\n",
-            Ends { piece: 7, fails: 2 },
+            SURE,
+            Ends(7, 2),
+            Status::WriteFault,
             "refused",
         ),
-        (b"none".as_slice(), "", Ends { piece: 5, fails: 2 }, "usage"),
+        (
+            b"none".as_slice(),
+            "",
+            SURE,
+            Ends(5, 2),
+            Status::WriteFault,
+            "usage",
+        ),
     ] {
         let input = Blob::copy_of(alloc, text.as_bytes())?;
-        let (status, got) = ran(&rt, alloc, &[words], input, SURE, to)?;
-        assert_eq!(rt; status, Status::WriteFault);
-        assert_eq!(rt; got.as_slice(), taken.as_bytes());
+        let (got, bytes) = ran(&rt, alloc, &[words], input, from, to, &OpenGate)?;
+        assert_eq!(rt; got, status);
+        assert_eq!(rt; bytes.as_slice(), taken.as_bytes());
     }
     Ok(())
 }
@@ -398,6 +449,7 @@ fn nothing_fails_over_sure_ends(rt: HostRuntime) -> Result<(), Fail> {
         words.as_slice(),
         &mut source,
         &mut SureSink::new(),
+        &OpenGate,
     );
     assert_eq!(rt; status, Status::Ok);
     Ok(())

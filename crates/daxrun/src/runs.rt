@@ -8,18 +8,20 @@ ghost use Rattle.dax_script.specs.declared.scripts.Script.{Script};
 ghost use Rattle.dax_script.specs.ScriptText.{BadLine, script_of};
 ghost use Rattle.dax_audit.specs.Legal.{IsLegal};
 ghost use Rattle.transcript_text.specs.TranscriptReading.{IsPrintable, transcript_of};
-ghost use Rattle.daxrun.specs.Carried.{is_carried_out, IsPlayable};
-ghost use Rattle.daxrun.specs.Run.{limit, is_script_command, usage_line, refused_line, too_long_line, refusal, AreFair, AllLinesDone, IsTextOf, IsAnswerTo, IsDue, due_status, Answers};
+ghost use Rattle.daxrun.specs.Carried.{IsPlayable};
+ghost use Rattle.daxrun.specs.Run.{limit, is_script_command, usage_line, refused_line, too_long_line, refusal, IsFairAlone, AreLinesDone, IsTextOf, IsAnswerTo, IsDue, due_status, Answers};
 
 use crate::plays::play;
 use crate::sessions::daemon_of;
 use dax_script::{BadScript, Script, Why, parse};
+use guest_run::Gate;
 use plain_file::{Blob, List, Memory};
 use plain_text::{put, put_number};
 use program_io::{ReadError, Sink, Source, Status, Word, read_all, write_all};
 use std::alloc::Global;
 use std::mem::forget;
 use std::sync::Wait;
+use std::thread::Threads;
 use transcript_text::{Transcript, print};
 
 // The most bytes that are read.
@@ -28,28 +30,30 @@ const LIMIT: usize = 16_777_216;
 /// Runs the program: with the word `script` it reads the source to its end, runs the script that it
 /// gives, and writes the transcript to the sink. Every text goes to the sink.
 ///
-/// Whatever the input, a run that ends with `Ok` writes one transcript in which every done call
-/// stands once in its file's history, in its guest's order, and every reply is the plain file's at
-/// that place. A truncation is refused exactly for the guest's own holds on its file, and no range could be
-/// taken only where the guest's own holds have all of them, or all but one where a call's bytes lie in two
-/// chunks. A run may wait, as the client's wire does. The statuses are found in the order words,
-/// reading, text, run, writing:
+/// Whatever the input and the schedule, a run that ends with `Ok` writes one transcript in which every done call
+/// stands once in its file's history, in its guest's order; every reply is the plain file's at that place; every
+/// access through the window names a placement then live for that file and chunk; each busy line shows every
+/// range pinned or moving, each leased line a count of leases. Without ranges each call is done. Where there is
+/// one guest and no background, a truncation is refused exactly for its own holds on the file, and no range could be taken only
+/// where its own holds have all of them, or all but one where a call's bytes lie in two chunks. The gate stands
+/// round each call of a guest: the program's is open. A run may wait, as the gate and the guests' calls do. The
+/// statuses are found in the order words, reading, text, run, writing:
 ///
 /// - `Ok`: the source was read to its end, and the whole transcript was taken.
 /// - `Refused`: the text is no script, and a line as `refused line 4 words` was taken, which says its first
-///   bad line, counted from 1, and why; or it is a script that isn't carried out yet, and `refused later` was
-///   taken.
+///   bad line, counted from 1, and why.
 /// - `Usage`: the words are no command, and the usage line was taken; nothing was read.
 /// - `ReadFault`: the source failed; nothing was written.
 /// - `WriteFault`: the sink failed; what was taken is a front of the text due, and not all of it.
 /// - `Memory`: an allocation was refused; nothing was written.
 /// - `TooLong`: the source has more than 16,777,216 bytes, and `too long` was taken.
-pub fn run<R: Wait, S: Source, K: Sink>(
+pub fn run<R: Threads + Wait + Sync, S: Source, K: Sink, G: Gate + Sync>(
     rt: &R,
     alloc: Global,
     words: &[Word],
     source: &mut S,
     sink: &mut K,
+    gate: &G,
 ) -> Status
     ensures ok { result ≡ Status.Ok → IsAtEnd (S.left source.new)
         × ((input : List ℕ) × IfSome (S.left source.old) (λ xs. input ≡ xs)
@@ -71,7 +75,7 @@ pub fn run<R: Wait, S: Source, K: Sink>(
     ensures due { IfSome (S.left source.old) (λ input. IsExpected (due_status words.now input) result) }
     ensures no_command { is_script_command words.now ≡ false → IsUsageOrWriteFault result × (source.new ≡ source.old) }
     ensures complete { (input : List ℕ) (s : Script) → is_script_command words.now ≡ true → S.left source.old ≡ Some input → length input ≤ limit → script_of input ≡ Ok s
-        → is_carried_out s ≡ true → (Rose (S.faults source.old) (S.faults source.new) → ⊥) → (Rose (K.faults sink.old) (K.faults sink.new) → ⊥) → IsOkOrMemory result }
+        → (Rose (S.faults source.old) (S.faults source.new) → ⊥) → (Rose (K.faults sink.old) (K.faults sink.new) → ⊥) → IsOkOrMemory result }
     ensures most { TakesAtMost (limit + buffer) (S.left source.old) (S.left source.new) }
 {
     if !is_script(words) {
@@ -81,7 +85,7 @@ pub fn run<R: Wait, S: Source, K: Sink>(
         };
     }
     match read_all(alloc, source, LIMIT) {
-        Ok(input) => run_script(rt, alloc, input.as_slice(), sink),
+        Ok(input) => run_script(rt, alloc, input.as_slice(), sink, gate),
         Err(ReadError::Failed) => Status::ReadFault,
         Err(ReadError::Memory) => Status::Memory,
         Err(ReadError::TooLong) => match write_all(sink, b"too long\n") {
@@ -102,10 +106,16 @@ fn is_script(words: &[Word]) -> bool
 }
 
 // Answers an input that was read whole.
-fn run_script<R: Wait, K: Sink>(rt: &R, alloc: Global, input: &[u8], sink: &mut K) -> Status
+fn run_script<R: Threads + Wait + Sync, K: Sink, G: Gate + Sync>(
+    rt: &R,
+    alloc: Global,
+    input: &[u8],
+    sink: &mut K,
+    gate: &G,
+) -> Status
     ensures { Answers input.now (K.taken sink.old) (K.taken sink.new) (K.faults sink.old) (K.faults sink.new) result }
 {
-    match answer_to(rt, alloc, input) {
+    match answer_to(rt, alloc, input, gate) {
         Ok((status, text)) => match write_all(sink, text.as_slice()) {
             Ok(()) => status,
             Err(_) => Status::WriteFault,
@@ -115,16 +125,17 @@ fn run_script<R: Wait, K: Sink>(rt: &R, alloc: Global, input: &[u8], sink: &mut 
 }
 
 // The text that answers an input, and its status: a transcript, or why there is none.
-fn answer_to<R: Wait>(rt: &R, alloc: Global, input: &[u8]) -> Result<(Status, Blob), Memory>
+fn answer_to<R: Threads + Wait + Sync, G: Gate + Sync>(
+    rt: &R,
+    alloc: Global,
+    input: &[u8],
+    gate: &G,
+) -> Result<(Status, Blob), Memory>
     ensures { IfOk result (λ a. IsAnswerTo input.now a.0 a.1) }
 {
     match parse(alloc, input) {
         Ok(script) => {
-            if !is_carried_out(&script) {
-                let text = Blob::copy_of(alloc, b"refused later\n")?;
-                return Ok((Status::Refused, text));
-            }
-            let text = transcribe(rt, alloc, &script)?;
+            let text = transcribe(rt, alloc, &script, gate)?;
             // The program ends with this text, so that nobody waits for the memory of each call.
             forget(script);
             Ok((Status::Ok, text))
@@ -135,14 +146,6 @@ fn answer_to<R: Wait>(rt: &R, alloc: Global, input: &[u8]) -> Result<(Status, Bl
         }
         Err(BadScript::Memory) => Err(Memory),
     }
-}
-
-// Whether a script is carried out: with at most one guest, and without turns of a background.
-#[tactic(auto, unfolding(crate::specs::Carried::is_carried_out))]
-pub(crate) fn is_carried_out(script: &Script) -> bool
-    ensures { result ≡ is_carried_out script.now }
-{
-    script.background == 0 && script.guests.len() <= 1
 }
 
 // The line that says which line of a text is no line of a script, and why.
@@ -160,24 +163,34 @@ fn refused_line(alloc: Global, line: u64, why: Why) -> Result<Blob, Memory>
 }
 
 // The text of the transcript of a script's run.
-fn transcribe<R: Wait>(rt: &R, alloc: Global, script: &Script) -> Result<Blob, Memory>
+fn transcribe<R: Threads + Wait + Sync, G: Gate + Sync>(
+    rt: &R,
+    alloc: Global,
+    script: &Script,
+    gate: &G,
+) -> Result<Blob, Memory>
     requires { IsPlayable script.now }
     ensures { IfOk result (IsTextOf script.now) }
 {
-    let transcript = play_script(rt, alloc, script)?;
+    let transcript = play_script(rt, alloc, script, gate)?;
     let text = print(alloc, &transcript)?;
     forget(transcript);
     Ok(text)
 }
 
 // Plays a script against the daemon of its files and its window.
-fn play_script<R: Wait>(rt: &R, alloc: Global, script: &Script) -> Result<Transcript, Memory>
+fn play_script<R: Threads + Wait + Sync, G: Gate + Sync>(
+    rt: &R,
+    alloc: Global,
+    script: &Script,
+    gate: &G,
+) -> Result<Transcript, Memory>
     requires { IsPlayable script.now }
     ensures legal { IfOk result (IsLegal script.now) }
-    ensures fair { IfOk result (AreFair script.now) }
-    ensures done { IfOk result (AllLinesDone script.now) }
+    ensures fair { IfOk result (IsFairAlone script.now) }
+    ensures done { IfOk result (AreLinesDone script.now) }
     ensures printable { IfOk result IsPrintable }
 {
-    let mut daemon = daemon_of(alloc, script)?;
-    play(rt, alloc, script, &mut daemon)
+    let daemon = daemon_of(alloc, script)?;
+    play(rt, alloc, script, daemon, gate)
 }

@@ -9,10 +9,11 @@ ghost use Rattle.fuse_device.specs.State.{new_state, looked_up, with_open};
 ghost use Rattle.guest_wire.specs.Wires.{boards};
 ghost use Rattle.daxrun.specs.Carried.{names_of, AreFiles, AreRanges};
 ghost use Rattle.daxrun.specs.Requests.{IsLive};
-ghost use Rattle.daxrun.specs.Session.{IsSession, IsThere, AreOpen, IsOpened, AreSmall, empty_firsts, firsts_of};
+ghost use Rattle.daxrun.specs.Session.{IsSession, IsThere, IsOpened, IsOpenAt, AreSmall, empty_firsts, firsts_of, whole_wire, opening_boards};
 
 use crate::requests::{begin, look_up, open_file};
 use daemon_core::Daemon;
+use dax_host::SoloWire;
 use dax_script::{FileLine, Script};
 use guest_wire::{Driver, FileRef, Wire};
 use page_map::{MapBoard, PAGES_OF_RANGE, PageMap};
@@ -49,17 +50,8 @@ pub fn opening_board(alloc: Global) -> Result<PlainFiles, Memory>
     PlainFiles::new(alloc, 0, &List::from_vec(firsts))
 }
 
-/// Guest 0's board of a script's files with their first contents.
-pub fn board_of(alloc: Global, files: &[FileLine]) -> Result<PlainFiles, Memory>
-    requires few { length files.now ≤ max_files }
-    requires small { AllByRecursion (λ f. f.first.size ≤ max_file) files.now }
-    ensures { IfOk result (λ b. b ≡ new_board 0 (firsts_of files.now)) }
-{
-    let firsts = firsts_of(alloc, files)?;
-    PlainFiles::new(alloc, 0, &firsts)
-}
-
-fn firsts_of(alloc: Global, files: &[FileLine]) -> Result<List<First>, Memory>
+/// What a script's files begin with.
+pub fn firsts_of(alloc: Global, files: &[FileLine]) -> Result<List<First>, Memory>
     ensures { IfOk result (λ firsts. firsts ≡ firsts_of files.now) }
 {
     let mut firsts = Vec::new(alloc);
@@ -67,6 +59,47 @@ fn firsts_of(alloc: Global, files: &[FileLine]) -> Result<List<First>, Memory>
         firsts.push(file.first)?;
     }
     Ok(List::from_vec(firsts))
+}
+
+/// Opens a session of a script's files over a virtqueue, and gives the daemon back with a reference to each file:
+/// an INIT, and a LOOKUP and an OPEN for each.
+pub fn open_session<R: Wait>(
+    rt: &R,
+    alloc: Global,
+    named: &[FileLine],
+    ranges: u32,
+    daemon: Daemon,
+) -> Result<(Daemon, Vec<FileRef>), Memory>
+    requires files { AreFiles named.now }
+    requires ranges { AreRanges ranges }
+    requires new { daemon ≡ new_state (range_pages * ranges) (names_of named.now) }
+    ensures count { IfOk result (λ o. length o.1.items ≡ length named.now) }
+    ensures opened { IfOk result (λ o. IsOpenAt named.now ranges o.1.items o.0) }
+{
+    let mut files = opening_board(alloc)?;
+    let mut map = PageMap::new(alloc, PAGES_OF_RANGE * ranges)?;
+    let client = Driver::new(SoloWire::new(alloc, daemon)?);
+    let (client, opened) = start_session(rt, alloc, client, named, &mut files, &mut map)?;
+    let Driver { wire, unique: _ } = client;
+    Ok((wire.into_daemon(), opened))
+}
+
+/// Closes a session that was so opened, over a virtqueue: a RELEASE for each file, and a DESTROY.
+pub fn close_session<R: Wait>(
+    rt: &R,
+    alloc: Global,
+    opened: &[FileRef],
+    ranges: u32,
+    daemon: Daemon,
+) -> Result<(), Memory>
+    requires ranges { AreRanges ranges }
+    requires live { IsLive (whole_wire daemon) (opening_boards ranges) }
+{
+    let mut files = opening_board(alloc)?;
+    let mut map = PageMap::new(alloc, PAGES_OF_RANGE * ranges)?;
+    let client = Driver::new(SoloWire::new(alloc, daemon)?);
+    let _client = end_session(rt, alloc, client, opened, &mut files, &mut map);
+    Ok(())
 }
 
 /// Begins a session and opens the files in their order: an INIT, then a LOOKUP and an OPEN for each. Where the

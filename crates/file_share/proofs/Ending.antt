@@ -1,141 +1,127 @@
--- A table is opened, and closed.
-use Rattle.std.proofs.Common.{◌≡◌, ◌≢◌, ℕ, zero, suc, ◌+◌, ◌<◌, ◌≤◌, List, [], ◌∷◌, ◌++◌, length, take, drop, get_or, slice_get, true, eqb, Option, Some, None, IfSome, refl, sym, ap, ◌∙◌, subst, arith, ne_eqb, lt_of_not-le}
+-- What is known once passes are joined, and where every number is in.
+use Rattle.std.proofs.Common.{◌≡◌, ◌≢◌, ℕ, zero, suc, ◌<◌, List, [], ◌∷◌, length, take, slice_get, true, false, Option, Some, None, refl, sym, ap, ◌∙◌, subst, ⊎_elim, arith, lt_of_not-le}
 use mathlib.Core.Logic.{dite}
 use mathlib.Core.Option.{some}
-use native.Mathlib.Decide.{dec_le}
+use mathlib.Core.Option as maybe
+use native.Mathlib.Decide.{ℕ_discrete, dec_le}
 use lib.ListN.{get_elem?, length-map}
-use Rattle.std.proofs.lemmas.List.{append-nil, take-append-drop, length-take-le}
-use Rattle.std.proofs.lemmas.List.Elements.{filter-append}
-use Rattle.atomic_table.specs.Table.{Final, Seen}
+use Rattle.atomic_table.specs.Table.{State, Allows, Final, Seen, step, keeps}
 use Rattle.atomic_table.proofs.Lists.{at_map}
+use Rattle.seats.specs.Views.{unused, out, root, guests, AllIn}
+use Rattle.seats.specs.Seats.{Shows, AllBack}
+use Rattle.seats.proofs.Seating.{unmoved, all_back}
 use Rattle.plain_file.specs.declared.operations.Entry.{Entry}
-use Rattle.plain_file.specs.declared.operations.First.{First}
 use Rattle.plain_file.specs.History.{Past}
-use Rattle.files_core.specs.declared.rows.Note.{Note}
-use Rattle.files_core.specs.Files.{FileState, row, no_file, file, with_entry}
-use Rattle.files_core.specs.Good.{Within, NoteOk}
+use Rattle.files_core.specs.Files.{FileState, row, no_file, file}
 use Rattle.files_core.specs.Shown.{Shown, shown_of}
-use Rattle.file_share.specs.Table.{root, guests, unseen, at_home, home, Given, unused, opened, out, back, View, in_list, part, first_at}
-use Rattle.file_share.specs.Shows.{Shows}
-use Rattle.file_share.specs.Steps.{NoTurn}
-use Rattle.file_share.specs.Passes.{own, Account, NotesHold}
-use Rattle.file_share.proofs.Places.{there, in_range, at_file, get_map}
-use Rattle.file_share.proofs.Moved.{St}
-use Rattle.file_share.proofs.Stepping.{is_not, part_is, first_is}
-use Rattle.file_share.proofs.Remade.{zero_take}
-use Rattle.file_share.proofs.Joining.{mark_of, nothing}
+use Rattle.files_core.proofs.Places.{beyond}
+use Rattle.file_share.specs.Table.{Core, GoodCore, Knows, Marks, Mine, Behind, Turnless, all_unseen, at_home, files_kit, home, in_list, merged_files, mine, part, past_of}
+use Rattle.file_share.specs.Steps.{Us, Accounted, Never, NoTurn, compares}
+use Rattle.file_share.specs.Known.{past_seen}
+use Rattle.file_share.proofs.Places.{get_map, in_range, at_file}
+use Rattle.file_share.proofs.Parts.{is_not, part_is, first_is}
+use Rattle.file_share.proofs.LawsOfMoves.{nothing_at, take_begins, begun_at}
+use Rattle.file_share.proofs.Laws.{files_laws}
+use Rattle.file_share.proofs.Accounts.{never_of, accounted}
 
--- ---- a guest's entries
+abbrev St : Type 0
+St = State (Option Past) Knows
 
-none_own : (guest : ℕ) (es : List Entry) → ((k : ℕ) (e : Entry) → slice_get es k ≡ Some e → e.guest ≢ guest) → own guest es ≡ []
-none_own guest [] h = refl
-none_own guest (x ∷ xs) h = rw (ne_eqb x.guest guest (h 0 x refl)) (none_own guest xs (λ k e at. h (suc k) e at))
-
-get_append : (xs ys : List Entry) (k : ℕ) (e : Entry) → slice_get ys k ≡ Some e → slice_get (xs ++ ys) (length xs + k) ≡ Some e
-get_append [] ys k e at = subst (λ (z : ℕ). slice_get ys z ≡ Some e) (omega arith) at
-get_append (x ∷ xs) ys k e at = let m : ℕ = length xs + k in let same : suc m ≡ length (x ∷ xs) + k = omega arith in subst (λ (z : ℕ). slice_get (x ∷ (xs ++ ys)) z ≡ Some e) same (get_append xs ys k e at)
-
--- beyond what the guest has seen there is nothing of its own
-pub own_take : (guest n : ℕ) (h : List Entry) → n ≤ length h → Within guest n h → own guest h ≡ own guest (take n h)
-own_take guest n h l w = let split = take-append-drop n h in let len = length-take-le n h l in
-    let none_there : own guest (drop n h) ≡ [] = none_own guest (drop n h) (λ k e at is. let lt = w (length (take n h) + k) e (subst (λ z. slice_get z (length (take n h) + k) ≡ Some e) split (get_append (take n h) (drop n h) k e at)) is in omega arith) in
-    ap (own guest) (sym split) ∙ (filter-append (λ (e : Entry). eqb e.guest guest) (take n h) (drop n h) ∙ (ap (λ z. own guest (take n h) ++ z) none_there ∙ append-nil (own guest (take n h))))
-
-take_all : (h : List Entry) (n : ℕ) → n ≤ length h → ((k : ℕ) (e : Entry) → slice_get h k ≡ Some e → k < n) → take n h ≡ h
-take_all h n l all = go (drop n h) (take-append-drop n h)
+-- with every number in, nobody has a turn where the first guest has none
+pub free_turn : (c : Core) (numbers : Marks) → GoodCore c → AllBack files_kit c numbers → Turnless (mine root c) → (f : ℕ) → f < length c.files → (file c.files f).turn ≡ None
+free_turn c numbers good back_all idle f near = go (file c.files f).turn refl
   where
-    go : (rest : List Entry) → take n h ++ rest ≡ h → take n h ≡ h
-    go [] is = sym (append-nil (take n h)) ∙ is
-    go (x ∷ rest) is = absurd (let len = length-take-le n h l in let lt = all (length (take n h) + 0) x (subst (λ z. slice_get z (length (take n h) + 0) ≡ Some x) is (get_append (take n h) (x ∷ rest) 0 x refl)) in omega arith)
+    off : (g : ℕ) → Turnless (mine g c) → (file c.files f).turn ≢ Some g
+    off g bare = is_not g (file c.files f).turn (sym (ap (λ (m : Shown). m.turn) (get_map (shown_of g) c.files f no_file)) ∙ bare f)
 
-pub at_rest : (o : Option Entry) (t : Option ℕ) (h : List Entry) → t ≡ None → IfSome o (λ e. t ≡ Some e.guest) → with_entry h o ≡ h
-at_rest None t h none is = refl
-at_rest (Some e) t h none is = absurd (let x : None ≡ Some e.guest = sym none ∙ is in cc)
+    not_its : (g : ℕ) → g < guests → (file c.files f).turn ≢ Some g
+    not_its g few = dite (ℕ_discrete g root)
+        (λ is. subst (λ (n : ℕ). (file c.files f).turn ≢ Some n) (sym is) (off root idle))
+        (λ ne. ⊎_elim
+        (λ (bare : mine g c ≡ all_unseen c). is_not g (file c.files f).turn (ap (λ (m : Shown). m.turn) (nothing_at c g bare f)))
+        (λ (h : Turnless (mine g c) × Behind g c). off g h.0)
+        (back_all.rest g few ne))
 
--- ---- with no number out, the first pass has seen all, and the slots have it
+    go : (t : Option ℕ) → (file c.files f).turn ≡ t → (file c.files f).turn ≡ None
+    go None is = is
+    go (Some g) is = absurd (not_its g ((good.files_good.files_ok f near).turn_small g is) is)
 
-module _ (firsts : List First) (s : St) (r : Shows firsts s) (id : ℕ) (v : View) (at : get_elem? s.views id ≡ some v) (live : v.live ≡ true) (first : v.guest ≡ root) (idle : NoTurn v) (all_in : (n : ℕ) → get_elem? v.numbers n ≢ some out) where
-  mark : (g : ℕ) → g < guests → (m : Given) × (get_elem? r.numbers g ≡ some m)
-  mark g l = there r.numbers g (let a = r.roster.all in omega arith)
+module _ (s : St) (r : Shows files_kit s) (id : ℕ) (v : Knows) (at : get_elem? s.views id ≡ some v) (live : v.live ≡ true) (first : v.guest ≡ root) where
+  its_numbers : v.numbers ≡ r.numbers
+  its_numbers = (r.views_fit id v at live).first first
 
-  its : (n : ℕ) (m : Given) → get_elem? r.numbers n ≡ some m → get_elem? v.numbers n ≡ some m
-  its n m is = ap (λ (l : List Given). get_elem? l n) ((r.views id v at live).of_first first) ∙ is
+  numbers_all : length v.numbers ≡ guests
+  numbers_all = ap (λ (l : Marks). length l) its_numbers ∙ r.roster.all
 
-  shows : (f : ℕ) → part v f ≡ shown_of root (file r.files f)
-  shows f = part_is v r.files (r.views id v at live).parts f ∙ ap (λ n. shown_of n (file r.files f)) first
+  shows_it : v.mine ≡ mine v.guest r.core
+  shows_it = (r.views_fit id v at live).part
 
-  -- what a joined pass knew of the file is what its guest is shown
-  back_shows : (n : ℕ) (ms : List Shown) → get_elem? r.numbers n ≡ some (back ms) → (f : ℕ) → in_list ms f ≡ shown_of n (file r.files f)
-  back_shows n ms is f = ap (λ (l : List Shown). get_or l f unseen) (r.roster.backs n ms is) ∙ get_map (shown_of n) r.files f no_file
+  shows_root : v.mine ≡ mine root r.core
+  shows_root = shows_it ∙ ap (λ n. mine n r.core) first
 
-  no_turn_of : (f g : ℕ) → (m : Given) → get_elem? r.numbers g ≡ some m → (file r.files f).turn ≢ Some g
-  no_turn_of f g unused is = is_not g (file r.files f).turn (ap (λ (x : Shown). x.turn) (nothing r.files g (r.roster.unused_is g is).0 f))
-  no_turn_of f g opened is = subst (λ (n : ℕ). (file r.files f).turn ≢ Some n) (sym (r.roster.one_root g is)) (is_not root (file r.files f).turn (ap (λ (x : Shown). x.turn) (sym (shows f)) ∙ idle f))
-  no_turn_of f g out is = absurd (all_in g (its g out is))
-  no_turn_of f g (back ms) is = is_not g (file r.files f).turn (ap (λ (x : Shown). x.turn) (sym (back_shows g ms is f)) ∙ r.roster.backs_idle g ms is f)
-
-  free_turn : (f : ℕ) → f < length r.files → (file r.files f).turn ≡ None
-  free_turn f near = go (file r.files f).turn refl
+  -- no entry that the first pass has seen is of a number that nobody had
+  pub never_seen : (f : ℕ) → Never v.numbers (part v f).seen
+  never_seen f n is k e a whose = let c : FileState = file r.core.files f in
+      let a' : slice_get (take (row c v.guest).seen c.history) k ≡ Some e = subst (λ (m : Shown). slice_get m.seen k ≡ Some e) (part_is v r.core shows_it f) a in dite (dec_le (length r.core.files) f)
+      (λ far. absurd (nothing k e (subst (λ (y : FileState). slice_get (take (row y v.guest).seen y.history) k ≡ Some e) (beyond r.core.files f no_file far) a')))
+      (λ ne. never_of r.core n f (let l = in_range v.numbers n unused is in let all = numbers_all in omega arith) r.good
+      (r.roster.unused_is n (ap (λ (l : Marks). get_elem? l n) (sym its_numbers) ∙ is)).0 (lt_of_not-le ne) k e
+      (begun_at (take (row c v.guest).seen c.history) c.history (take_begins (row c v.guest).seen c.history) k e a') whose)
     where
-      go : (t : Option ℕ) → (file r.files f).turn ≡ t → (file r.files f).turn ≡ None
-      go None is = is
-      go (Some g) is = absurd (let x = mark g ((r.good.files_ok f near).turn_small g is) in no_turn_of f g x.0 x.1 is)
+      nothing : (k : ℕ) (e : Entry) → slice_get [] k ≡ Some e → ⊥
+      nothing k e at = cc
 
-  seen_by : (f : ℕ) → f < length r.files → (k : ℕ) (e : Entry) → slice_get (file r.files f).history k ≡ Some e → (m : Given) → get_elem? r.numbers e.guest ≡ some m → k < (row (file r.files f) root).seen
-  seen_by f near k e a unused is = let good = r.good.files_ok f near in let c : FileState = file r.files f in let ok = good.rows_ok e.guest (good.entries_small k e a) in
-      let z : (row c e.guest).seen ≡ 0 = zero_take (row c e.guest).seen c.history ok.seen (ap (λ (x : Shown). x.seen) (nothing r.files e.guest (r.roster.unused_is e.guest is).0 f)) in let lt = ok.own k e a refl in absurd (omega arith)
-  seen_by f near k e a opened is = ((r.good.files_ok f near).rows_ok root (omega arith)).own k e a (r.roster.one_root e.guest is)
-  seen_by f near k e a out is = absurd (all_in e.guest (its e.guest out is))
-  seen_by f near k e a (back ms) is = let good = r.good.files_ok f near in let lt = (good.rows_ok e.guest (good.entries_small k e a)).own k e a refl in let le = r.roster.backs_seen e.guest ms is f near in omega arith
+  module _ (idle : NoTurn v) (all_in : (n : ℕ) → get_elem? v.numbers n ≢ some out) where
+    all_in_back : AllBack files_kit r.core v.numbers
+    all_in_back = all_back files_kit files_laws s r id v at live first all_in
 
-  whole_seen : (f : ℕ) → f < length r.files → (part v f).seen ≡ (file r.files f).history
-  whole_seen f near = let c : FileState = file r.files f in let good = r.good.files_ok f near in
-      ap (λ (m : Shown). m.seen) (shows f) ∙ take_all c.history (row c root).seen (good.rows_ok root (omega arith)).seen (λ k e a. let x = mark e.guest (good.entries_small k e a) in seen_by f near k e a x.0 x.1)
+    turn_free : (f : ℕ) → f < length r.core.files → (file r.core.files f).turn ≡ None
+    turn_free = free_turn r.core v.numbers r.good all_in_back (subst Turnless shows_root idle)
 
-  begins : (f : ℕ) → first_at v f ≡ (file r.files f).first
-  begins f = first_is v r.files (r.views id v at live).begun f
+    past_is : (f : ℕ) → f < length r.core.files → past_of (file r.core.files f) ≡ past_seen v f
+    past_is f near = let e = (accounted r.core v.numbers numbers_all r.good all_in_back f near (turn_free f near)).0 ∙ sym (ap (λ (m : Mine). (in_list m.files f).seen) shows_root) in
+        let b = sym (first_is v r.core shows_it f) in λ i. record { first = b i; history = e i }
 
-  home_is : (f : ℕ) → f < length r.files → get_elem? s.homes f ≡ some (some (Some record { first = first_at v f; history = (part v f).seen }))
-  home_is f near = ap (λ l. get_elem? l f) r.homes ∙ (at_map home r.files f (file r.files f) (at_file r.files f near)
-      ∙ ap some (λ i. at_home (free_turn f near i) record { first = sym (begins f) i; history = sym (whole_seen f near) i }))
+    pub accounts : (f : ℕ) → f < length r.core.files → Accounted v.numbers f (past_seen v f)
+    accounts f near = subst (Accounted v.numbers f) (past_is f near) (accounted r.core v.numbers numbers_all r.good all_in_back f near (turn_free f near)).1
 
-  accounts : (f : ℕ) → f < length r.files → (n : ℕ) → ((ms : List Shown) → get_elem? v.numbers n ≡ some (back ms) → own n (part v f).seen ≡ own n (in_list ms f).seen) × (get_elem? v.numbers n ≡ some unused → own n (part v f).seen ≡ [])
-  accounts f near n = let c : FileState = file r.files f in (
-    (λ ms b. let b' = mark_of firsts s r id v at live first n (back ms) b in let ok = (r.good.files_ok f near).rows_ok n (let l = in_range r.numbers n (back ms) b' in let a = r.roster.all in omega arith) in
-        ap (own n) (whole_seen f near) ∙ (own_take n (row c n).seen c.history ok.seen ok.own ∙ ap (λ (m : Shown). own n m.seen) (sym (back_shows n ms b' f)))),
-    (λ b. let b' = mark_of firsts s r id v at live first n unused b in let ok = (r.good.files_ok f near).rows_ok n (let l = in_range r.numbers n unused b' in let a = r.roster.all in omega arith) in
-        ap (own n) (whole_seen f near) ∙ (own_take n (row c n).seen c.history ok.seen ok.own ∙ ap (λ (m : Shown). own n m.seen) (nothing r.files n (r.roster.unused_is n b').0 f))),
-  )
+    -- the contents are at home
+    pub lies : (f : ℕ) → f < length r.core.files → get_elem? s.homes f ≡ some (some (Some (past_seen v f)))
+    lies f near = ap (λ l. get_elem? l f) r.homes_are ∙ (at_map home r.core.files f (file r.core.files f) (at_file r.core.files f near)
+        ∙ ap some (λ i. at_home (turn_free f near i) (past_is f near i)))
 
-  notes_hold : (f : ℕ) → f < length r.files → (n k : ℕ) (ms : List Shown) (m : Note) → get_elem? v.numbers n ≡ some (back ms) → slice_get (in_list ms f).notes k ≡ Some m → NoteOk (first_at v f) (part v f).seen m
-  notes_hold f near n k ms m b is = let c : FileState = file r.files f in let good = r.good.files_ok f near in let b' = mark_of firsts s r id v at live first n (back ms) b in
-      let ok = good.notes_ok n k m (ap (λ (x : Shown). slice_get x.notes k) (sym (back_shows n ms b' f)) ∙ is) in
-      subst (λ (z : First × List Entry). NoteOk z.0 z.1 m) (λ i. (sym (begins f) i, (at_rest c.applied c.turn c.history (free_turn f near) good.applied_is ∙ sym (whole_seen f near)) i)) ok
+-- no turn is had after a join, where none was
+pub merged_idle : (ms ns : List Shown) → ((f : ℕ) → (in_list ms f).turn ≡ false) → (f : ℕ) → (in_list (merged_files ms ns) f).turn ≡ false
+merged_idle [] ns idle f = refl
+merged_idle (m ∷ ms) [] idle f = idle f
+merged_idle (m ∷ ms) (n ∷ ns) idle zero = idle 0
+merged_idle (m ∷ ms) (n ∷ ns) idle (suc f) = merged_idle ms ns (λ i. idle (suc i)) f
 
-beyond : {A : Type 0} (l : List A) (i : ℕ) (d : A) → length l ≤ i → get_or l i d ≡ d
-beyond [] i d h = refl
-beyond (x ∷ xs) zero d h = absurd (omega arith)
-beyond (x ∷ xs) (suc i) d h = beyond xs i d (omega arith)
+-- a load after a join, which changes nothing
+pub compares_all : (slots id i : ℕ) (me : Us) → me.0.live ≡ true → me.0.guest ≡ root → NoTurn me.0 → Allows (Shows files_kit) slots id me i (λ n. n) (compares (step slots i 0 0 maybe.none) me)
+compares_all slots id i me live first idle s r deep at small = (
+  me.0,
+  keeps,
+  tt,
+  unmoved files_kit files_laws s r i id me.1 me.0 at,
+  record {
+    same = refl;
+    told = (r.views_fit id me.0 at live).told;
+    never = never_seen s r id me.0 at live first;
+    account = λ all_in f near. accounts s r id me.0 at live first idle all_in.1 f (let e = ap (λ (m : Mine). length m.files) (r.views_fit id me.0 at live).part ∙ length-map r.core.files (shown_of me.0.guest) in omega arith);
+  },
+)
 
-no_notes : (k : ℕ) (m : Note) → slice_get [] k ≡ Some m → ⊥
-no_notes k m e = cc
-
-pub ends : (firsts : List First) (words : List ℕ) (slots : List (Option Past)) (id : ℕ) (v : View) → v.live ≡ true → v.guest ≡ root → NoTurn v → ((n : ℕ) → get_elem? v.numbers n ≢ some out) → Final (Seen (Shows firsts) id v) words slots
-    → ((f : ℕ) → f < length slots → get_elem? slots f ≡ some (Some record { first = first_at v f; history = (part v f).seen })) × Account v.numbers (λ f. (part v f).seen) × NotesHold v
-ends firsts words slots id v live first idle all_in z =
+-- With every number in, each file's contents are those that the first pass has seen, and of each entry it is known whose it is.
+pub ends : (words : List ℕ) (slots : List (Option Past)) (id : ℕ) (v : Knows) → v.live ≡ true → NoTurn v → AllIn v → Final (Seen (Shows files_kit) id v) words slots
+    → (f : ℕ) → f < length slots → (get_elem? slots f ≡ some (Some (past_seen v f))) × Accounted v.numbers f (past_seen v f)
+ends words slots id v live idle all_in z f l =
     let s = z.0 in
     let r = z.1.0 in
     let at = z.1.1 in
-    let fits = r.views id v at live in
     let long : length s.homes ≡ length slots = z.3 in
-    let many : length r.files ≡ length s.homes = sym (length-map r.files home) ∙ ap length (sym r.homes) in
-    let nobody_here : (f : ℕ) → length r.files ≤ f → part v f ≡ unseen = (λ f far. beyond v.files f unseen (let e = ap length fits.parts ∙ length-map r.files (shown_of v.guest) in omega arith)) in
-    let none_there : (n : ℕ) (ms : List Shown) → get_elem? v.numbers n ≡ some (back ms) → (f : ℕ) → length r.files ≤ f → in_list ms f ≡ unseen = (λ n ms b f far. beyond ms f unseen (let e = ap length (r.roster.backs n ms (mark_of firsts s r id v at live first n (back ms) b)) ∙ length-map r.files (shown_of n) in omega arith)) in (
-      (λ f l. z.4 f (Some record { first = first_at v f; history = (part v f).seen }) (home_is firsts s r id v at live first idle all_in f (omega arith))),
-      (λ f n. dite (dec_le (length r.files) f)
-          (λ far. ((λ ms b. λ i. own n ((nobody_here f far ∙ sym (none_there n ms b f far)) i).seen), (λ b. ap (λ (m : Shown). own n m.seen) (nobody_here f far))))
-          (λ near. accounts firsts s r id v at live first idle all_in f (lt_of_not-le near) n)),
-      (λ f n k ms m b is. dite (dec_le (length r.files) f)
-          (λ far. absurd (no_notes k m (ap (λ (x : Shown). slice_get x.notes k) (sym (none_there n ms b f far)) ∙ is)))
-          (λ near. notes_hold firsts s r id v at live first idle all_in f (lt_of_not-le near) n k ms m b is)),
+    let many : length r.core.files ≡ length s.homes = sym (length-map r.core.files home) ∙ ap length (sym r.homes_are) in
+    let near : f < length r.core.files = omega arith in (
+      z.4 f (Some (past_seen v f)) (lies s r id v at live all_in.0 idle all_in.1 f near),
+      accounts s r id v at live all_in.0 idle all_in.1 f near,
     )

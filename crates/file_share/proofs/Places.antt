@@ -5,7 +5,7 @@ use mathlib.Core.Option.{some, some-ne-none, some-injective}
 use native.Mathlib.Decide.{ℕ_discrete}
 use lib.ListN.{get_elem?}
 use Rattle.files_core.proofs.Keeps.{length_with}
-use Rattle.files_core.specs.Files.{Row, FileState, blank, row, file, whole, with_row, entered, seen_to, leased, noted, unleased, Deed, take_turn, set_size, give_turn, lease, note_size, unlease, set_bar, clear_bar, made}
+use Rattle.files_core.specs.Files.{Row, FileState, blank, row, file, whole, with_row, reaches, entered, seen_to, leased, noted, unleased, Deed, take_turn, set_size, give_turn, lease, note_size, unlease, set_bar, clear_bar, made}
 
 module _ {A : Type 0} where
   pub get_at : (l : List A) (i : ℕ) (a d : A) → get_elem? l i ≡ some a → get_or l i d ≡ a
@@ -68,7 +68,7 @@ row_same c g n take_turn ne = row_else c g n (entered (length c.history) (row c 
 row_same c g n (set_size e) ne = refl
 row_same c g n give_turn ne = row_else c g n (seen_to (length (whole c)) (row c g)) ne
 row_same c g n lease ne = row_else c g n (leased (row c g)) ne
-row_same c g n note_size ne = row_else c g n (noted c.size (row c g)) ne
+row_same c g n note_size ne = row_else c g n (noted c.size (reaches c g) (row c g)) ne
 row_same c g n unlease ne = row_else c g n (unleased (row c g)) ne
 row_same c g n set_bar ne = refl
 row_same c g n clear_bar ne = refl
@@ -82,7 +82,7 @@ module _ (c : FileState) (g : ℕ) (near : g < length c.rows) (seen : (row c g).
   mine_grows (set_size e) = omega arith
   mine_grows give_turn = let m = length_with c.history c.applied in seen_here (seen_to (length (whole c)) (row c g)) (omega arith)
   mine_grows lease = seen_here (leased (row c g)) (omega arith)
-  mine_grows note_size = seen_here (noted c.size (row c g)) (omega arith)
+  mine_grows note_size = seen_here (noted c.size (reaches c g) (row c g)) (omega arith)
   mine_grows unlease = seen_here (unleased (row c g)) (omega arith)
   mine_grows set_bar = omega arith
   mine_grows clear_bar = omega arith

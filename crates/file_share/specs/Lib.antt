@@ -1,5 +1,7 @@
 pub mod Table
-pub mod Shows
 pub mod Steps
-pub mod Passes
+pub mod Places
 pub mod Known
+pub mod Boards
+pub mod Tries
+pub mod Turns

@@ -1,5 +1,5 @@
 -- Each deed keeps a file good: each part of it by a lemma of its own.
-use Rattle.std.proofs.Common.{◌≡◌, ◌≢◌, ◌⊎◌, ℕ, zero, suc, ◌+◌, ◌-◌, ◌<◌, ◌≤◌, List, [], ◌∷◌, ◌++◌, map, length, slice_get, Option, Some, None, IfSome, IsSome, refl, sym, ap, ◌∙◌, subst, ⊎_elim, inl, inr, arith, length-set, length-append, lt_of_not-le}
+use Rattle.std.proofs.Common.{Bool, cond, true, false, ◌≡◌, ◌≢◌, ◌⊎◌, ℕ, zero, suc, ◌+◌, ◌-◌, ◌<◌, ◌≤◌, List, [], ◌∷◌, ◌++◌, map, length, slice_get, Option, Some, None, IfSome, IsSome, refl, sym, ap, ◌∙◌, subst, ⊎_elim, inl, inr, arith, length-set, length-append, lt_of_not-le}
 use mathlib.Core.Logic.{dite}
 use native.Mathlib.Decide.{dec_le}
 use Rattle.std.proofs.lemmas.List.Sums.{sum_by-set}
@@ -10,7 +10,7 @@ use Rattle.plain_file.specs.declared.operations.First.{First}
 use Rattle.plain_file.specs.File.{max_file, reach}
 use Rattle.plain_file.specs.History.{size}
 use Rattle.files_core.specs.declared.rows.Note.{Note}
-use Rattle.files_core.specs.Files.{Row, FileState, Deed, take_turn, set_size, give_turn, lease, note_size, unlease, set_bar, clear_bar, blank, row, leases, leases_of, with_entry, whole, sized, written_size, MaySet, May, with_row, upper_or, ended_at, entered, seen_to, leased, noted_after, note, noted, noted_left, unleased, made}
+use Rattle.files_core.specs.Files.{Row, FileState, is_guest, reaches, Deed, take_turn, set_size, give_turn, lease, note_size, unlease, set_bar, clear_bar, blank, row, leases, leases_of, with_entry, whole, sized, written_size, MaySet, May, with_row, upper_or, ended_at, entered, seen_to, leased, noted_after, note, noted, noted_left, unleased, made}
 use Rattle.files_core.specs.Good.{size_of, RowOk, NoteOk, GoodFile}
 use Rattle.files_core.proofs.Places.{at_put, at_end, in_range}
 use Rattle.files_core.proofs.Sizes.{size_front, size_more}
@@ -141,7 +141,7 @@ module _ (guests : ℕ) (c : FileState) (g : ℕ) (l : g < guests) (good : GoodF
   rows_all_kept (set_size e) a = good.rows_all
   rows_all_kept give_turn a = length-set c.rows g (seen_to (length (whole c)) (row c g)) ∙ good.rows_all
   rows_all_kept lease a = length-set c.rows g (leased (row c g)) ∙ good.rows_all
-  rows_all_kept note_size a = length-set c.rows g (noted c.size (row c g)) ∙ good.rows_all
+  rows_all_kept note_size a = length-set c.rows g (noted c.size (reaches c g) (row c g)) ∙ good.rows_all
   rows_all_kept unlease a = length-set c.rows g (unleased (row c g)) ∙ good.rows_all
   rows_all_kept set_bar a = good.rows_all
   rows_all_kept clear_bar a = good.rows_all
@@ -232,13 +232,20 @@ module _ (guests : ℕ) (c : FileState) (g : ℕ) (l : g < guests) (good : GoodF
   barred_kept (set_size e) a b = good.barred b
   barred_kept give_turn a b = same_leases c g (seen_to (length (whole c)) (row c g)) near refl ∙ good.barred b
   barred_kept lease a b = absurd (no_bar_none c.bar a.0 b)
-  barred_kept note_size a b = same_leases c g (noted c.size (row c g)) near refl ∙ good.barred b
+  barred_kept note_size a b = same_leases c g (noted c.size (reaches c g) (row c g)) near refl ∙ good.barred b
   barred_kept unlease a b = let z = good.barred b in let under = row_below c g near in absurd (omega arith)
   barred_kept set_bar a b = a.1
   barred_kept clear_bar a b = absurd (cc)
 
-  noted_now : NoteOk c.first (whole c) (note c.size (row c g).seen)
-  noted_now = let a = (good.rows_ok g l).seen in let b = length_with c.history c.applied in record { at = length (whole c); above = omega arith; within = omega arith; is = good.size_is; below = tt }
+  reached : reaches c g ≤ length (whole c)
+  reached = go (is_guest g c.turn)
+    where
+      go : (b : Bool) → cond b (length (whole c)) (row c g).seen ≤ length (whole c)
+      go true = omega arith
+      go false = let a = (good.rows_ok g l).seen in let b = length_with c.history c.applied in omega arith
+
+  noted_now : NoteOk c.first (whole c) (note c.size (reaches c g))
+  noted_now = let r = reached in record { at = length (whole c); above = omega arith; within = omega arith; is = good.size_is; below = tt }
 
   notes_ok_kept : (d : Deed) → May c g d → (i k : ℕ) (n : Note) → slice_get (row (made c g d) i).notes k ≡ Some n → NoteOk c.first (whole (made c g d)) n
   notes_ok_kept take_turn a = notes_put c c.first (whole c) g (entered (length c.history) (row c g)) near (λ k n at.
@@ -247,7 +254,7 @@ module _ (guests : ℕ) (c : FileState) (g : ℕ) (l : g < guests) (good : GoodF
   notes_ok_kept (set_size e) a = λ i k n at. note_longer c.first c.history e n (subst (λ (h : List Entry). NoteOk c.first h n) (at_rest a.free) (good.notes_ok i k n at))
   notes_ok_kept give_turn a = notes_put c c.first (whole c) g (seen_to (length (whole c)) (row c g)) near (good.notes_ok g) good.notes_ok
   notes_ok_kept lease a = notes_put c c.first (whole c) g (leased (row c g)) near (good.notes_ok g) good.notes_ok
-  notes_ok_kept note_size a = notes_put c c.first (whole c) g (noted c.size (row c g)) near (λ k n at. ⊎_elim (λ b. good.notes_ok g k n b) (λ b. subst (λ (y : Note). NoteOk c.first (whole c) y) b.1 noted_now) (at_end (row c g).notes (note c.size (row c g).seen) n k at)) good.notes_ok
+  notes_ok_kept note_size a = notes_put c c.first (whole c) g (noted c.size (reaches c g) (row c g)) near (λ k n at. ⊎_elim (λ b. good.notes_ok g k n b) (λ b. subst (λ (y : Note). NoteOk c.first (whole c) y) b.1 noted_now) (at_end (row c g).notes (note c.size (reaches c g)) n k at)) good.notes_ok
   notes_ok_kept unlease a = notes_put c c.first (whole c) g (unleased (row c g)) near (good.notes_ok g) good.notes_ok
   notes_ok_kept set_bar a = good.notes_ok
   notes_ok_kept clear_bar a = good.notes_ok
@@ -272,7 +279,7 @@ module _ (guests : ℕ) (c : FileState) (g : ℕ) (l : g < guests) (good : GoodF
       })
   rows_ok_kept lease a = let me = good.rows_ok g l in let few = a.1 in rows_put c guests c.turn c.history c.size g (leased (row c g)) near
       record { seen = me.seen; at_turn = me.at_turn; own = me.own; noted = noted_grows (row c g).noted (row c g).leases c.size me.noted; few = omega arith } (λ i few other. good.rows_ok i few)
-  rows_ok_kept note_size a = let me = good.rows_ok g l in rows_put c guests c.turn c.history c.size g (noted c.size (row c g)) near
+  rows_ok_kept note_size a = let me = good.rows_ok g l in rows_put c guests c.turn c.history c.size g (noted c.size (reaches c g) (row c g)) near
       record { seen = me.seen; at_turn = me.at_turn; own = me.own; noted = noted_taken (row c g).noted (row c g).leases c.size me.noted; few = me.few } (λ i few other. good.rows_ok i few)
   rows_ok_kept unlease a = let me = good.rows_ok g l in let few = me.few in rows_put c guests c.turn c.history c.size g (unleased (row c g)) near
       record { seen = me.seen; at_turn = me.at_turn; own = me.own; noted = noted_kept (row c g).noted ((row c g).leases - 1) (row c g).leases c.size me.noted; few = omega arith } (λ i few other. good.rows_ok i few)

@@ -3,9 +3,9 @@ use Rattle.std.proofs.Common.{◌≡◌, ◌≢◌, ℕ, ◌<◌, ◌≤◌, Lis
 use lib.Seq.{map-set_same}
 use Rattle.std.proofs.lemmas.List.{take-append-le}
 use Rattle.plain_file.specs.declared.operations.Entry.{Entry}
-use Rattle.files_core.specs.Files.{Row, FileState, blank, row, no_file, file, with_entry, whole, with_row, entered, seen_to, leased, noted, unleased, Deed, take_turn, set_size, give_turn, lease, note_size, unlease, set_bar, clear_bar, May, made, FileDeed, Allowed, after}
+use Rattle.files_core.specs.Files.{Row, FileState, is_guest, reaches, blank, row, no_file, file, with_entry, whole, with_row, entered, seen_to, leased, noted, unleased, Deed, take_turn, set_size, give_turn, lease, note_size, unlease, set_bar, clear_bar, May, made, FileDeed, Allowed, after}
 use Rattle.files_core.specs.Good.{GoodFile, GoodFiles}
-use Rattle.files_core.specs.Shown.{is_guest, shown_of, shown}
+use Rattle.files_core.specs.Shown.{shown_of, shown}
 
 take_with : (n : ℕ) (h : List Entry) (o : Option Entry) → n ≤ length h → take n (with_entry h o) ≡ take n h
 take_with n h None l = refl
@@ -40,7 +40,7 @@ module _ (guests : ℕ) (c : FileState) (g o : ℕ) (ne : o ≢ g) (l : o < gues
       let seen = ap (λ (r : Row). take r.seen (whole c)) e ∙ take_with (row c o).seen c.history c.applied (good.rows_ok o l).seen in
       λ i. record { seen = seen i; turn = turn i; applied = applied i; leases = (e i).leases; noted = (e i).noted; bar = is_guest o c.bar; notes = (e i).notes }
   other_sees lease a = same_row (leased (row c g))
-  other_sees note_size a = same_row (noted c.size (row c g))
+  other_sees note_size a = same_row (noted c.size (reaches c g) (row c g))
   other_sees unlease a = same_row (unleased (row c g))
   other_sees set_bar a = let b = other ∙ sym (nobodys c.bar a.0) in λ i. record (shown_of o c) { bar = b i }
   other_sees clear_bar a = let b = sym (not_its c.bar a) in λ i. record (shown_of o c) { bar = b i }

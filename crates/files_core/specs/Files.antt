@@ -1,5 +1,5 @@
 -- The files' half of the core: its state, what a guest may do to it, and what that makes of it.
-use Rattle.std.specs.Prelude.{◌≡◌, ◌≢◌, ℕ, zero, suc, ◌+◌, ◌-◌, ◌<◌, ◌≤◌, max, List, [], ◌∷◌, ◌++◌, map, length, replicate, slice_set, slice_index_or, Option, Some, None, Bool, MatchBool, ⊤}
+use Rattle.std.specs.Prelude.{◌≡◌, ◌≢◌, ℕ, zero, suc, ◌+◌, ◌-◌, ◌<◌, ◌≤◌, max, List, [], ◌∷◌, ◌++◌, map, length, replicate, slice_set, slice_index_or, Option, Some, None, Bool, false, ◌==◌, if◌then◌else◌, MatchBool, ⊤}
 use Rattle.std.specs.List.{sum_by}
 use Rattle.plain_file.specs.declared.operations.Op.{Op}
 use Rattle.plain_file.specs.declared.operations.Op.TheVariants as ops
@@ -129,8 +129,17 @@ noted_after (suc k) z old = Some z
 abbrev pub note : ℕ → ℕ → Note
 note z n = record { size = z; lower = n; upper = None }
 
-abbrev pub noted : ℕ → Row → Row
-noted z r = record r { noted = noted_after r.leases z r.noted; notes = r.notes ++ note z r.seen ∷ [] }
+-- a turn or a bar is this guest's
+abbrev pub is_guest : ℕ → Option ℕ → Bool
+is_guest g None = false
+is_guest g (Some h) = h == g
+
+-- how much of the history the guest has seen, with the entry that it applied in its turn
+abbrev pub reaches : FileState → ℕ → ℕ
+reaches c g = if is_guest g c.turn then length (whole c) else (row c g).seen
+
+abbrev pub noted : ℕ → ℕ → Row → Row
+noted z n r = record r { noted = noted_after r.leases z r.noted; notes = r.notes ++ note z n ∷ [] }
 
 abbrev pub noted_left : ℕ → Option ℕ → Option ℕ
 noted_left zero old = None
@@ -145,7 +154,7 @@ made c g take_turn = record (with_row c g (entered (length c.history) (row c g))
 made c g (set_size e) = record c { applied = Some e; size = sized c.size e.op }
 made c g give_turn = record (with_row c g (seen_to (length (whole c)) (row c g))) { turn = None; applied = None; history = whole c }
 made c g lease = with_row c g (leased (row c g))
-made c g note_size = with_row c g (noted c.size (row c g))
+made c g note_size = with_row c g (noted c.size (reaches c g) (row c g))
 made c g unlease = with_row c g (unleased (row c g))
 made c g set_bar = record c { bar = Some g }
 made c g clear_bar = record c { bar = None }

@@ -2,7 +2,7 @@
 use Rattle.std.specs.Prelude.{◌≡◌, ◌≢◌, ℕ, ◌<◌, ◌==◌, List, map, take, Bool, false, if◌then◌else◌, Option, Some, None}
 use Rattle.plain_file.specs.declared.operations.Entry.{Entry}
 use Rattle.files_core.specs.declared.rows.Note.{Note}
-use Rattle.files_core.specs.Files.{FileState, row, FileDeed, Allowed, after}
+use Rattle.files_core.specs.Files.{FileState, is_guest, row, FileDeed, Allowed, after}
 use Rattle.files_core.specs.Good.{GoodFiles}
 
 -- of one file: what it has seen of the history, whether it has the turn, what it applied in it, its leases, the size that
@@ -15,10 +15,6 @@ pub record Shown : Type 0 where
   pub noted : Option ℕ
   pub bar : Bool
   pub notes : List Note
-
-abbrev pub is_guest : ℕ → Option ℕ → Bool
-is_guest g None = false
-is_guest g (Some h) = h == g
 
 abbrev pub shown_of : ℕ → FileState → Shown
 shown_of g c = record {

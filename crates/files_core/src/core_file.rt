@@ -1,6 +1,6 @@
 ghost use Rattle.std.specs.Prelude.{◌≡◌, ◌≢◌, ◌≤◌, ◌<◌, nat_le, length, replicate, IfOk, OnErr, OnOk, Some, MatchBool, MatchResult};
 ghost use Rattle.plain_file.specs.File.{max_file, reach};
-ghost use Rattle.files_core.specs.Files.{DidHere, MaySet, blank, clear_bar, give_turn, lease, leases, made, new_file, note_size, set_bar, set_size, sized, take_turn, unlease};
+ghost use Rattle.files_core.specs.Files.{DidHere, MaySet, blank, clear_bar, give_turn, lease, leases, made, new_file, note_size, reaches, set_bar, set_size, sized, take_turn, unlease};
 
 use crate::rows::GuestRow;
 use plain_file::{Entry, First, MAX_FILE, Memory, Op};
@@ -185,13 +185,26 @@ impl CoreFile {
         true
     }
 
+    // How much of the history the guest has seen, with the entry that it applied in its turn.
+    fn reaches(&self, guest: u32) -> u64
+        requires { guest < length self.now.rows }
+        ensures { result ≡ reaches self.now guest }
+    {
+        if !self.has_turn(guest) {
+            return self.rows[guest as usize].seen();
+        }
+        let applied = if self.applied.is_some() { 1 } else { 0 };
+        self.history.len() as u64 + applied
+    }
+
     pub(crate) fn note_size(&mut self, guest: u32) -> Result<(), Memory>
         requires { guest < length self.old.rows }
         ensures ok { OnOk result (self.new ≡ made self.old guest note_size) }
         ensures err { OnErr result (self.new ≡ self.old) }
     {
         let size = self.size;
-        self.rows[guest as usize].note(size)
+        let lower = self.reaches(guest);
+        self.rows[guest as usize].note(size, lower)
     }
 
     pub(crate) fn unlease(&mut self, guest: u32) -> bool

@@ -10,7 +10,8 @@ use std::marker::Model;
 pub struct Note {
     /// The size, in bytes.
     pub size: u64,
-    /// How much of the file's history the guest had seen when it noted the size.
+    /// How much of the file's history the guest had seen when it noted the size, with the entry that it
+    /// had applied in its turn.
     pub lower: u64,
     /// How long the history was when the guest next had the file's turn.
     pub upper: Option<u64>,
@@ -101,13 +102,19 @@ impl GuestRow {
         }
     }
 
-    pub(crate) fn note(&mut self, size: u64) -> Result<(), Memory>
-        ensures ok { OnOk result (self.new ≡ noted size self.old) }
+    pub(crate) fn seen(&self) -> u64
+        ensures { result ≡ self.now.seen }
+    {
+        self.seen
+    }
+
+    pub(crate) fn note(&mut self, size: u64, lower: u64) -> Result<(), Memory>
+        ensures ok { OnOk result (self.new ≡ noted size lower self.old) }
         ensures err { OnErr result (self.new ≡ self.old) }
     {
         self.notes.push(Note {
             size,
-            lower: self.seen,
+            lower,
             upper: None,
         })?;
         if self.leases > 0 {

@@ -16,6 +16,7 @@ use Rattle.plain_file.proofs.OneFile.{file_at-with_file, file_at-with_other}
 use Rattle.guest_io.specs.declared.calls.Done.{Done}
 use Rattle.guest_io.specs.Calls.{IsDone, Directs, KeepsFloor, OthersStay}
 use Rattle.guest_io.specs.Chunks.{AppliesDirect}
+use Rattle.guest_io.proofs.Noting.{closes-by}
 
 -- the bytes before the last entry
 pub bytes-before : (first : First) (h : List Entry) (e : Entry) → bytes first (h ++ e ∷ []) (length h) ≡ bytes first h (length h)
@@ -71,10 +72,10 @@ floor-seen false v file more plain within others sound h =
     let known = sound.sound.floor plain (ap (λ (f : FileView). f.ready) here) in
     subst (λ (f : FileView). IfSome f.floor (λ z. z ≤ size_of f)) here known
 
-pub directs : (v : BoardView) (file : ℕ) (more : List Entry) (op : Op) (a : Applied) → file < length v.files → v.hands.turn ≡ None → AreOthers v more → a ≡ file_answer (file_at (entered v file more) file) op →
+pub directs : (v : BoardView) (file : ℕ) (more : List Entry) (op : Op) (a : Applied) → file < length v.files → v.hands.turn ≡ None → AreOthers v more → a ≡ file_answer (file_at (entered v file more) file) op → IsSoundBoard (left (applied (entered v file more) file op) file) file →
     Directs v file v.mark.call v.mark.way op (record { place = a.place; answer = a.answer }) (left (applied (entered v file more) file op) file)
 unfolding file_answer bytes_now
-directs v file more op a within free others is =
+directs v file more op a within free others is sound =
     let f = file_at v file in
     let here : file_at (entered v file more) file ≡ seen_file f more = file_at-with_file v file (seen_file f more) within in
     let answers : a ≡ file_answer (seen_file f more) op = is ∙ ap (λ (x : FileView). file_answer x op) here in
@@ -94,6 +95,7 @@ directs v file more op a within free others is =
       hands = no-turn v.hands free;
       guest = refl;
       count = count-after v file more op;
+      closes = λ shared. closes-by v.guest v.plain f (file_at (left (applied (entered v file more) file op) file) file) more (entry_of v op) (ap (λ (x : FileView). x.notes) after) (ap (λ (x : FileView). x.history) after) sound.sound;
     }
 
 floor-after : (v : BoardView) (file : ℕ) (more : List Entry) (op : Op) (a : Applied) → file < length v.files → AreOthers v more → IsSoundBoard (entered v file more) file → a ≡ file_answer (file_at (entered v file more) file) op →
@@ -110,12 +112,12 @@ floor-after v file more op a within others sound is h =
 
 -- the board without its mark
 pub Directs-unmarked : (v : BoardView) (file call : ℕ) (way : Way) (op : Op) (d : Done) (w : BoardView) → Directs (marked v call way) file call way op d w → Directs v file call way op d w
-Directs-unmarked v file call way op d w t = record { done = t.done; others = t.others; hands = t.hands; guest = t.guest; count = t.count }
+Directs-unmarked v file call way op d w t = record { done = t.done; others = t.others; hands = t.hands; guest = t.guest; count = t.count; closes = t.closes }
 
-pub Directs-as : (v : BoardView) (file call : ℕ) (way : Way) (op : Op) (a : Applied) (w : BoardView) → file < length v.files → v.hands.turn ≡ None → AppliesAs (marked v call way) file op (Ok a) w → AppliesDirect v file call way op (Ok (record { place = a.place; answer = a.answer })) w
-Directs-as v file call way op a w within free (more, mid, others, sound, (may, is, d), last) =
+pub Directs-as : (v : BoardView) (file call : ℕ) (way : Way) (op : Op) (a : Applied) (w : BoardView) → file < length v.files → v.hands.turn ≡ None → AppliesAs (marked v call way) file op (Ok a) w → IsSoundBoard w file → AppliesDirect v file call way op (Ok (record { place = a.place; answer = a.answer })) w
+Directs-as v file call way op a w within free (more, mid, others, sound, (may, is, d), last) now =
     let m = marked v call way in
     let e : w ≡ left (applied (entered m file more) file op) file = last ∙ ap (λ (x : BoardView). left x file) d in (
-      Directs-unmarked v file call way op (record { place = a.place; answer = a.answer }) w (subst (λ (x : BoardView). Directs m file call way op (record { place = a.place; answer = a.answer }) x) (sym e) (directs m file more op a within free others is)),
+      Directs-unmarked v file call way op (record { place = a.place; answer = a.answer }) w (subst (λ (x : BoardView). Directs m file call way op (record { place = a.place; answer = a.answer }) x) (sym e) (directs m file more op a within free others is (subst (λ (x : BoardView). IsSoundBoard x file) e now))),
       subst (λ (x : BoardView). KeepsFloor v file (record { place = a.place; answer = a.answer }) x) (sym e) (floor-after m file more op a within others sound is),
     )

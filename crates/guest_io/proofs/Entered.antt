@@ -1,5 +1,5 @@
 -- What a request about a file leaves of the board of files, as one entry of its history.
-use Rattle.std.proofs.Common.{◌≡◌, ◌∙◌, ap, sym, refl, subst, arith, ℕ, zero, suc, ◌-◌, ◌<◌, Bool, true, false, List, [], ◌∷◌, ◌++◌, length, get_or, Some, None}
+use Rattle.std.proofs.Common.{◌≡◌, ◌∙◌, ap, sym, refl, subst, arith, ℕ, zero, suc, ◌-◌, ◌<◌, Bool, true, false, true≢false, List, [], ◌∷◌, ◌++◌, length, get_or, Some, None, inl}
 use Rattle.std.specs.Prelude.{slice_get, All, ◌≢◌}
 use Rattle.std.proofs.lemmas.Grind.{common_steps}
 use Rattle.std.proofs.lemmas.List.{append-nil}
@@ -14,12 +14,13 @@ use Rattle.plain_file.specs.File.{after}
 use Rattle.plain_file.specs.History.{bytes}
 use Rattle.plain_file.specs.Board.{FileView, BoardView, IsReady, file_at, with_own, entry_of, applied, marked, file_answer, bytes_now, size_of, last_of}
 use Rattle.plain_file.specs.Turns.{AreOthers, entered, seen_file, left}
-use Rattle.plain_file.specs.Sound.{IsPlaceOf}
+use Rattle.plain_file.specs.Sound.{IsPlaceOf, IsSoundBoard}
 use Rattle.plain_file.proofs.Grows.{bytes-grown}
 use Rattle.plain_file.proofs.OneFile.{file_at-with_file, file_at-with_other}
 use Rattle.guest_io.specs.Calls.{IsDone, Directs}
 use Rattle.guest_io.specs.Requests.{IsUndone}
 use Rattle.guest_io.proofs.Asked.{mid, back}
+use Rattle.guest_io.proofs.Noting.{keeps-by}
 use Rattle.guest_io.proofs.DirectLaws.{directs, file-after, long-set}
 
 -- ---- the one entry
@@ -27,10 +28,10 @@ use Rattle.guest_io.proofs.DirectLaws.{directs, file-after, long-set}
 none-more : (g : ℕ) → All (λ (e : Entry). e.guest ≢ g) []
 none-more g k d within = absurd (omega arith)
 
--- on a board whose file is ready
-directs-whole : (v : BoardView) (file : ℕ) (op : Op) (a : Applied) → file < length v.files → a ≡ file_answer (file_at v file) op → Directs v file v.mark.call v.mark.way op (record { place = a.place; answer = a.answer }) (applied v file op)
+-- on a plain board
+directs-whole : (v : BoardView) (file : ℕ) (op : Op) (a : Applied) → file < length v.files → v.plain ≡ true → a ≡ file_answer (file_at v file) op → Directs v file v.mark.call v.mark.way op (record { place = a.place; answer = a.answer }) (applied v file op)
 unfolding file_answer bytes_now
-directs-whole v file op a within is =
+directs-whole v file op a within plain is =
     let f = file_at v file in
     let own : FileView = with_own v.plain (entry_of v op) f in
     let here : file_at (applied v file op) file ≡ own = file_at-with_file v file own within in
@@ -50,17 +51,18 @@ directs-whole v file op a within is =
       hands = refl;
       guest = refl;
       count = long-set v file own;
+      closes = λ shared. absurd (true≢false (sym plain ∙ shared));
     }
 
 pub directs-by : (stays : Bool) (v : BoardView) (file : ℕ) (more : List Entry) (op : Op) (a : Applied) → file < length v.files → v.hands.turn ≡ None → AreOthers v more → a ≡ file_answer (file_at (mid stays v file more) file) op
-    → Directs v file v.mark.call v.mark.way op (record { place = a.place; answer = a.answer }) (back stays (applied (mid stays v file more) file op) file)
-directs-by true v file more op a within free others is = directs v file more op a within free others is
-directs-by false v file more op a within free others is = directs-whole v file op a within is
+    → (stays ≡ false → v.plain ≡ true) → IsSoundBoard (back stays (applied (mid stays v file more) file op) file) file → Directs v file v.mark.call v.mark.way op (record { place = a.place; answer = a.answer }) (back stays (applied (mid stays v file more) file op) file)
+directs-by true v file more op a within free others is whole sound = directs v file more op a within free others is sound
+directs-by false v file more op a within free others is whole sound = directs-whole v file op a within (whole refl) is
 
 -- ---- no entry
 
-undone-seen : (v : BoardView) (file : ℕ) (more : List Entry) → file < length v.files → AreOthers v more → IsUndone v file (left (entered v file more) file)
-undone-seen v file more within others =
+undone-seen : (v : BoardView) (file : ℕ) (more : List Entry) → file < length v.files → AreOthers v more → IsSoundBoard (left (entered v file more) file) file → IsUndone v file (left (entered v file more) file)
+undone-seen v file more within others sound =
     let e = entered v file more in
     let seen = seen_file (file_at v file) more in
     let here : file_at e file ≡ seen = file_at-with_file v file seen within in
@@ -71,19 +73,20 @@ undone-seen v file more within others =
       others = others.others;
       history = ap (λ (x : FileView). x.history) after_it;
       own = ap (λ (x : FileView). x.own) after_it;
+      notes = keeps-by v.guest v.plain (file_at v file) (file_at (left e file) file) more (ap (λ (x : FileView). x.notes) after_it) (ap (λ (x : FileView). x.history) after_it) sound.sound;
       stay = λ j else. file_at-with_other e file j (record (file_at e file) { ready = v.plain }) else ∙ file_at-with_other v file j seen else;
     }
 
 pub undone-same : (v : BoardView) (file : ℕ) → IsUndone v file v
-undone-same v file = record { more = []; others = none-more v.guest; history = sym (append-nil (file_at v file).history); own = refl; stay = λ j else. refl }
+undone-same v file = record { more = []; others = none-more v.guest; history = sym (append-nil (file_at v file).history); own = refl; notes = λ k n at none. inl at; stay = λ j else. refl }
 
-pub undone-by : (stays : Bool) (v : BoardView) (file : ℕ) (more : List Entry) → file < length v.files → AreOthers v more → IsUndone v file (back stays (mid stays v file more) file)
-undone-by true v file more within others = undone-seen v file more within others
-undone-by false v file more within others = undone-same v file
+pub undone-by : (stays : Bool) (v : BoardView) (file : ℕ) (more : List Entry) → file < length v.files → AreOthers v more → IsSoundBoard (back stays (mid stays v file more) file) file → IsUndone v file (back stays (mid stays v file more) file)
+undone-by true v file more within others sound = undone-seen v file more within others sound
+undone-by false v file more within others sound = undone-same v file
 
 -- the board without its mark
 pub undone-unmarked : (v : BoardView) (call : ℕ) (way : Way) (file : ℕ) (w : BoardView) → IsUndone (marked v call way) file w → IsUndone v file w
-undone-unmarked v call way file w h = record { more = h.more; others = h.others; history = h.history; own = h.own; stay = h.stay }
+undone-unmarked v call way file w h = record { more = h.more; others = h.others; history = h.history; own = h.own; stay = h.stay; notes = h.notes }
 
 -- ---- a size that is asked for changes no bytes
 

@@ -1,10 +1,10 @@
 -- A hold that is asked for: what is had of a chunk under a lease, and what is left where it was refused.
-use Rattle.std.proofs.Common.{◌≡◌, ◌∙◌, ap, sym, refl, subst, ℕ, ◌+◌, ◌*◌, ◌<◌, ◌≤◌, Bool, true, List, [], ◌∷◌, ◌++◌, length, Option, Some, None, Result, Ok, Err, inl, arith}
-use Rattle.std.specs.Prelude.{◌≢◌, min, sum, IsSome, is_some, slice_get, slice_index_or, slice_set, if◌then◌else◌}
+use Rattle.std.proofs.Common.{◌≡◌, ◌∙◌, ap, sym, refl, subst, ℕ, ◌+◌, ◌*◌, ◌<◌, ◌≤◌, true, List, length, Some, None, Result, Ok, Err, inl, arith}
+use Rattle.std.specs.Prelude.{◌≢◌, min, sum, IsSome, is_some, slice_get, slice_index_or, slice_set}
 use Rattle.std.proofs.lemmas.List.{length-set, get_or-set_same, get_or-set_other}
 use mathlib.Core.Logic.{dite}
 use native.Mathlib.Decide.{ℕ_discrete}
-use Rattle.plain_file.specs.Board.{Note, FileView, FileHands, BoardView, file_at, with_note, size_of}
+use Rattle.plain_file.specs.Board.{Note, FileView, FileHands, BoardView, file_at, size_of}
 use Rattle.plain_file.specs.Turns.{leased_file, leased, unleased, Leases}
 use Rattle.plain_file.proofs.OneFile.{file_at-with_file}
 use Rattle.page_map.specs.declared.pages.Mode.{Mode}
@@ -21,12 +21,13 @@ use Rattle.guest_io.specs.declared.calls.Refusal.{Refusal}
 use Rattle.guest_io.specs.declared.guest.Granted.{Granted}
 use Rattle.guest_io.specs.declared.guest.Holds.{Holds}
 use Rattle.guest_io.specs.Calls.{first_chunk}
+use Rattle.guest_io.specs.Notes.{IsOpenNote}
 use Rattle.guest_io.specs.Chunks.{Gets, IsUnplaced}
 use Rattle.guest_io.specs.Windows.{IsOfDax}
 use Rattle.guest_io.specs.Going.{LeavesAll}
 use Rattle.guest_io.specs.Holds.{max_holds, granted_at, IsHold, HasHolds, LeavesRest, refused_one, granted_one, IsNoted, IsNotGranted, AsksHold}
 use Rattle.guest_io.proofs.Staying.{firsts-by, StaysBoard-files}
-use Rattle.guest_io.proofs.Leasing.{alone-leased, alone-unleased, hands-unleased, LeavesAll-between}
+use Rattle.guest_io.proofs.Leasing.{alone-leased, alone-unleased, hands-unleased, LeavesAll-between, note-leased}
 use Rattle.guest_io.proofs.HoldLaws.{one_at, more-at, sum-more, count-more, leases-more, pins-more, pin-had, Rests, Rests-map, IsHold-rests, HasHolds-leaves}
 
 -- the stand with one lease more
@@ -184,13 +185,6 @@ module _ (s t : Stand) (h : Holds) (file z : ℕ) (g : Granted) (u : UnderLease 
 file-lent : (v : BoardView) (file z : ℕ) → file < length v.files → file_at (leased v file z) file ≡ leased_file (is_some v.over) z (file_at v file)
 file-lent v file z within = file_at-with_file v file (leased_file (is_some v.over) z (file_at v file)) within
 
-last-note : (ns : List Note) (n : Note) → slice_get (ns ++ n ∷ []) (length ns) ≡ Some n
-last-note [] n = refl
-last-note (m ∷ ns) n = last-note ns n
-
-over-some : (o : Option (List ℕ)) → IsSome o → is_some o ≡ true
-over-some o h = h
-
 module _ (s t : Stand) (file z : ℕ) (u : UnderLease s file z t) where
   file-stays : StaysFile (file_at (leased s.files file z) file) (file_at t.files file)
   file-stays = u.keeps.files.each file (subst (λ n. file < n) (sym (alone-leased s.files file z u.within).count) u.within)
@@ -202,10 +196,15 @@ module _ (s t : Stand) (file z : ℕ) (u : UnderLease s file z t) where
   kept-noted over =
       let f = file_at s.files file in
       let n : Note = record { size = z; lower = length f.history; upper = None } in
-      let notes : (file_at (leased s.files file z) file).notes ≡ f.notes ++ n ∷ [] = ap (λ (x : FileView). x.notes) (file-lent s.files file z u.within) ∙ ap (λ (k : Bool). if k then (with_note z f).notes else f.notes) (over-some s.files.over over) in
-      let at : slice_get (file_at (leased s.files file z) file).notes (length f.notes) ≡ Some n = ap (λ (ns : List Note). slice_get ns (length f.notes)) notes ∙ last-note f.notes n in
-      let stays = file-stays.notes (length f.notes) n at in
+      let stays = file-stays.notes (length f.notes) n (note-leased s.files file z u.within over) in
       (length f.notes, stays.note, stays.at, stays.size, stays.lower)
+
+  -- over an honest wire nothing of the files has changed since the lease
+  open-noted : s.wire.honest ≡ true → IsSome s.files.over → IsOpenNote s.files file z t.files
+  open-noted honest over = (
+    length (file_at s.files file).notes,
+    subst (λ (b : BoardView). slice_get (file_at b file).notes (length (file_at s.files file).notes) ≡ Some (record { size = z; lower = length (file_at s.files file).history; upper = None })) (sym (u.keeps.still honest).files) (note-leased s.files file z u.within over),
+  )
 
   pub asks-granted : (h k : Holds) (chunk end : ℕ) (mode : Mode) (p : Pinned) → k ≡ granted_one h (record { file = file; chunk = chunk; mode = mode; pinned = p; end = end }) → end ≡ min (range_size * (chunk + 1)) z → Gets (lent s file z) file chunk mode (Ok p) t → AsksHold s h file chunk mode (Ok (record { end = end; through = p.through })) t k
   asks-granted h k chunk end mode p is lesser (hands, pin, looks) = (
@@ -224,6 +223,7 @@ module _ (s t : Stand) (file z : ℕ) (u : UnderLease s file z t) where
       floor = floor-noted;
       plain = u.plain;
       kept = kept-noted;
+      open_note = open-noted;
     },
   )
 

@@ -268,7 +268,7 @@ LeavesRest-both s t u a b = record {
 }
 
 pub SameEntries-same : (v : BoardView) → SameEntries v v
-SameEntries-same v = record { history = λ file. refl; own = λ file. refl }
+SameEntries-same v = record { history = λ file. refl; own = λ file. refl; notes = λ file k n at. at }
 
 pub SameEntries-both : (u v w : BoardView) → SameEntries u v → SameEntries v w → SameEntries u w
-SameEntries-both u v w a b = record { history = λ file. b.history file ∙ a.history file; own = λ file. b.own file ∙ a.own file }
+SameEntries-both u v w a b = record { history = λ file. b.history file ∙ a.history file; own = λ file. b.own file ∙ a.own file; notes = λ file k n at. b.notes file k n (a.notes file k n at) }

@@ -1,6 +1,6 @@
 -- A lease around an operation, or before a request.
-use Rattle.std.proofs.Common.{◌≡◌, ◌∙◌, ap, sym, refl, subst, ℕ, zero, suc, ◌+◌, ◌<◌, ◌≤◌, ◌==◌, Bool, true, false, true≢false, List, [], ◌∷◌, ◌++◌, length, take, slice_get, slice_set, Option, Some, None, Result, Ok, Err, inl, inr, arith, append_assoc}
-use Rattle.std.specs.Prelude.{◌≢◌, All, IsSome, IfSome, IfOk, is_some, slice_index_or, if◌then◌else◌}
+use Rattle.std.proofs.Common.{◌≡◌, ◌∙◌, ap, sym, refl, subst, ℕ, zero, suc, ◌+◌, ◌<◌, ◌≤◌, ◌==◌, Bool, true, false, List, [], ◌∷◌, ◌++◌, length, take, slice_get, slice_set, Option, Some, None, Result, Ok, Err, inl, inr, arith, append_assoc}
+use Rattle.std.specs.Prelude.{◌≢◌, All, IsSome, IfSome, is_some, slice_index_or, if◌then◌else◌}
 use Rattle.std.proofs.lemmas.Grind.{common_steps}
 use mathlib.Core.Logic.{dite}
 use native.Mathlib.Decide.{ℕ_discrete}
@@ -28,9 +28,11 @@ use Rattle.guest_io.specs.declared.calls.Refusal.{Refusal}
 use Rattle.guest_io.specs.declared.calls.Refusal.TheVariants as refusals
 use Rattle.guest_io.specs.Calls.{Directs, KeepsFloor, OthersStay}
 use Rattle.guest_io.specs.Chunks.{less_on}
-use Rattle.guest_io.specs.Requests.{IsHome, IsUndone, ClosesNotes, SendsRest, Sends}
+use Rattle.guest_io.specs.Notes.{ClosesNotes, SameNotes}
+use Rattle.guest_io.specs.Requests.{IsHome, IsUndone, SendsRest, Sends}
 use Rattle.guest_io.specs.Windows.{GoesThrough}
 use Rattle.guest_io.specs.Going.{StaysBoard, LeavesAll, IsRefused, Writes}
+use Rattle.guest_io.proofs.Noting.{last-note, same-leased, closes-between, keeps-between}
 use Rattle.guest_io.proofs.DirectLaws.{long-set}
 use Rattle.guest_io.proofs.Staying.{firsts-by}
 use Rattle.guest_io.proofs.Holding.{back}
@@ -48,6 +50,17 @@ leased-file v file z within = file_at-with_file v file (leased_file (is_some v.o
 
 leased-other : (v : BoardView) (file z f : ℕ) → (f ≡ file → ⊥) → file_at (leased v file z) f ≡ file_at v f
 leased-other v file z f apart = file_at-with_other v file f (leased_file (is_some v.over) z (file_at v file)) apart
+
+some-over : (o : Option (List ℕ)) → IsSome o → is_some o ≡ true
+some-over o h = h
+
+-- over a board that stands over a table, the noted size is the last of the notes
+pub note-leased : (v : BoardView) (file z : ℕ) → file < length v.files → IsSome v.over → slice_get (file_at (leased v file z) file).notes (length (file_at v file).notes) ≡ Some (record { size = z; lower = length (file_at v file).history; upper = None })
+note-leased v file z within over =
+    let f = file_at v file in
+    let n : Note = record { size = z; lower = length f.history; upper = None } in
+    let notes : (file_at (leased v file z) file).notes ≡ f.notes ++ n ∷ [] = ap (λ (x : FileView). x.notes) (leased-file v file z within) ∙ ap (λ (k : Bool). if k then (with_note z f).notes else f.notes) (some-over v.over over) in
+    ap (λ (ns : List Note). slice_get ns (length f.notes)) notes ∙ last-note f.notes n
 
 unleased-file : (v : BoardView) (file : ℕ) → file < length v.files → file_at (unleased v file) file ≡ record (file_at v file) { floor = floor_left v file }
 unleased-file v file within = file_at-with_file v file (record (file_at v file) { floor = floor_left v file }) within
@@ -74,6 +87,7 @@ pub record LeasesAlone (v w : BoardView) (file : ℕ) : Type 0 where
   pub history : (file_at w file).history ≡ (file_at v file).history
   pub own : (file_at w file).own ≡ (file_at v file).own
   pub ready : (file_at w file).ready ≡ (file_at v file).ready
+  pub notes : SameNotes (file_at v file) (file_at w file)
   pub stay : OthersStay v file w
 
 pub alone-leased : (v : BoardView) (file z : ℕ) → file < length v.files → LeasesAlone v (leased v file z) file
@@ -91,6 +105,7 @@ alone-leased v file z within =
       history = ap (λ (x : FileView). x.history) e;
       own = ap (λ (x : FileView). x.own) e;
       ready = ap (λ (x : FileView). x.ready) e;
+      notes = subst (λ (x : FileView). SameNotes (file_at v file) x) (sym e) (same-leased (is_some v.over) z (file_at v file));
       stay = λ f apart. leased-other v file z f apart;
     }
 
@@ -109,6 +124,7 @@ alone-unleased v file within =
       history = ap (λ (x : FileView). x.history) e;
       own = ap (λ (x : FileView). x.own) e;
       ready = ap (λ (x : FileView). x.ready) e;
+      notes = subst (λ (x : FileView). SameNotes (file_at v file) x) (sym e) (λ k n at. at);
       stay = λ f apart. unleased-other v file f apart;
     }
 
@@ -125,11 +141,12 @@ alone-both u v w file a b = record {
   history = b.history ∙ a.history;
   own = b.own ∙ a.own;
   ready = b.ready ∙ a.ready;
+  notes = λ k n at. b.notes k n (a.notes k n at);
   stay = λ f apart. b.stay f apart ∙ a.stay f apart;
 }
 
 alone-same : (v : BoardView) (file : ℕ) → LeasesAlone v v file
-alone-same v file = record { guest = refl; plain = refl; over = refl; may_lease = refl; others = refl; turn = refl; count = refl; first = refl; history = refl; own = refl; ready = refl; stay = λ f apart. refl }
+alone-same v file = record { guest = refl; plain = refl; over = refl; may_lease = refl; others = refl; turn = refl; count = refl; first = refl; history = refl; own = refl; ready = refl; notes = λ k n at. at; stay = λ f apart. refl }
 
 pub RestsAs-alone : (v w : BoardView) (file : ℕ) → LeasesAlone v w file → RestsAs v w
 RestsAs-alone v w file k = record {
@@ -191,6 +208,7 @@ Directs-between v v' w w' file call way op d a k b hands =
       hands = hands;
       guest = b.guest ∙ k.guest ∙ a.guest;
       count = b.count ∙ k.count ∙ a.count;
+      closes = λ shared. closes-between (file_at v file) (file_at v' file) (file_at w file) (file_at w' file) a.notes (k.closes (a.plain ∙ shared)) b.first b.history;
     }
 
 pub IsUndone-between : (v v' w w' : BoardView) (file : ℕ) → LeasesAlone v v' file → IsUndone v' file w → LeasesAlone w w' file → IsUndone v file w'
@@ -200,6 +218,7 @@ IsUndone-between v v' w w' file a k b = record {
   history = b.history ∙ k.history ∙ ap (λ (l : List Entry). l ++ k.more) a.history;
   own = b.own ∙ k.own ∙ a.own;
   stay = λ f apart. b.stay f apart ∙ k.stay f apart ∙ a.stay f apart;
+  notes = keeps-between (file_at v file) (file_at v' file) (file_at w file) (file_at w' file) a.notes k.notes b.notes b.first b.history;
 }
 
 -- a call was refused between
@@ -263,21 +282,9 @@ alone-lease v file z within =
 pub hands-lease : (v : BoardView) (file z : ℕ) → (after_lease v file z).hands ≡ v.hands
 hands-lease v file z = hands-unleased v (leased v file z) file z refl
 
-last-note : (ns : List Note) (n : Note) → slice_get (ns ++ n ∷ []) (length ns) ≡ Some n
-last-note [] n = refl
-last-note (m ∷ ns) n = last-note ns n
-
-some-over : (o : Option (List ℕ)) → IsSome o → is_some o ≡ true
-some-over o h = h
-
--- over a board that stands over a table, the noted size is the last of the notes
 note-kept : (v : BoardView) (file z : ℕ) → file < length v.files → IsSome v.over → slice_get (file_at (after_lease v file z) file).notes (length (file_at v file).notes) ≡ Some (record { size = z; lower = length (file_at v file).history; upper = None })
 note-kept v file z within over =
-    let f = file_at v file in
-    let l = leased v file z in
-    let a : (file_at (after_lease v file z) file).notes ≡ (file_at l file).notes = ap (λ (x : FileView). x.notes) (unleased-file l file (subst (λ n. file < n) (sym (long-leased v file z)) within)) in
-    let b : (file_at l file).notes ≡ f.notes ++ record { size = z; lower = length f.history; upper = None } ∷ [] = ap (λ (x : FileView). x.notes) (leased-file v file z within) ∙ ap (λ (k : Bool). if k then (with_note z f).notes else f.notes) (some-over v.over over) in
-    ap (λ (ns : List Note). slice_get ns (length f.notes)) (a ∙ b) ∙ last-note f.notes (record { size = z; lower = length f.history; upper = None })
+    (alone-unleased (leased v file z) file (subst (λ n. file < n) (sym (long-leased v file z)) within)).notes (length (file_at v file).notes) (record { size = z; lower = length (file_at v file).history; upper = None }) (note-leased v file z within over)
 
 -- the file after the entries that were seen before
 front-size : (first : First) (h more : List Entry) → size first (h ++ more) (length h) ≡ size first h (length h)
@@ -311,17 +318,13 @@ fresh-noted v file z d call way op w within over k closes =
     let same : place ≡ d.place = omega (arith, at, long, last) in
     subst (λ n. IsFresh g.first g.history (length f.history) n z) same fresh
 
-not-false : (b : Bool) → (b ≡ false → ⊥) → b ≡ true
-not-false true h = refl
-not-false false h = absurd (h refl)
+fresh-by : (plain : Bool) (v : BoardView) (file z : ℕ) (d : Done) (call : ℕ) (way : Way) (op : Op) (w : BoardView) → v.plain ≡ plain → file < length v.files → (v.plain ≡ true → z ≡ size_of (file_at v file)) → (v.plain ≡ false → IsSome v.over) → Directs v file call way op d w → (v.plain ≡ false → ClosesNotes (file_at (after_lease v file z) file) (file_at w file)) → IsFresh (file_at w file).first (file_at w file).history (length (file_at v file).history) d.place z
+fresh-by true v file z d call way op w plain within is noting k closes = fresh-plain v file z d call way op w (is plain) k
+fresh-by false v file z d call way op w plain within is noting k closes = fresh-noted v file z d call way op w within (noting plain) k (closes plain)
 
-fresh-by : (plain : Bool) (wire : WireView) (v : BoardView) (file z : ℕ) (d : Done) (call : ℕ) (way : Way) (op : Op) (w : BoardView) → v.plain ≡ plain → file < length v.files → (v.plain ≡ true → z ≡ size_of (file_at v file)) → (v.plain ≡ false → IsSome v.over) → (wire.stays ≡ false → v.plain ≡ true) → Directs v file call way op d w → (wire.stays ≡ true → ClosesNotes (file_at (after_lease v file z) file) (file_at w file)) → IsFresh (file_at w file).first (file_at w file).history (length (file_at v file).history) d.place z
-fresh-by true wire v file z d call way op w plain within is noting whole k closes = fresh-plain v file z d call way op w (is plain) k
-fresh-by false wire v file z d call way op w plain within is noting whole k closes = fresh-noted v file z d call way op w within (noting plain) k (closes (not-false wire.stays (λ no. true≢false (sym (whole no) ∙ plain))))
-
-pub Writes-request : (wire : WireView) (map : MapView) (v : BoardView) (t : Stand) (file call off : ℕ) (written : List ℕ) (z : ℕ) (r : Result Done Refusal) → 0 < range_count map → file < length v.files → z < off + length written → NoLooks map → (v.plain ≡ true → z ≡ size_of (file_at v file)) → (wire.honest ≡ true → wire.stays ≡ false → v.plain ≡ true)
-    → SendsRest (stand wire (after_lease v file z) map) call (ways.ReqSaw z) t → Sends (stand wire (after_lease v file z) map) file call (ops.Write off written) (ways.ReqSaw z) r t → IfOk r (λ d. wire.honest ≡ true → wire.stays ≡ true → ClosesNotes (file_at (after_lease v file z) file) (file_at t.files file)) → Writes (stand wire v map) file call off written r t
-Writes-request wire map v t file call off written z (Ok d) some within below looks plain whole k (newest, does) closes = (
+pub Writes-request : (wire : WireView) (map : MapView) (v : BoardView) (t : Stand) (file call off : ℕ) (written : List ℕ) (z : ℕ) (r : Result Done Refusal) → 0 < range_count map → file < length v.files → z < off + length written → NoLooks map → (v.plain ≡ true → z ≡ size_of (file_at v file))
+    → SendsRest (stand wire (after_lease v file z) map) call (ways.ReqSaw z) t → Sends (stand wire (after_lease v file z) map) file call (ops.Write off written) (ways.ReqSaw z) r t → Writes (stand wire v map) file call off written r t
+Writes-request wire map v t file call off written z (Ok d) some within below looks plain k (newest, does) = (
   NoLooks-sent (stand wire (after_lease v file z) map) t call (ways.ReqSaw z) k looks,
   (
     ways.ReqSaw z,
@@ -329,10 +332,10 @@ Writes-request wire map v t file call off written z (Ok d) some within below loo
         let a = alone-lease v file z within in
         let x = does honest in
         let y = Directs-between v (after_lease v file z) t.files t.files file call (ways.ReqSaw z) (ops.Write off written) d a x (alone-same t.files file) (x.hands ∙ hands-lease v file z) in
-        (y, (some, below, λ noting. fresh-by v.plain wire v file z d call (ways.ReqSaw z) (ops.Write off written) t.files refl within plain noting (whole honest) y (closes honest))),
+        (y, (some, below, λ noting. fresh-by v.plain v file z d call (ways.ReqSaw z) (ops.Write off written) t.files refl within plain noting y x.closes)),
   ),
 )
-Writes-request wire map v t file call off written z (Err e) some within below looks plain whole k h closes =
+Writes-request wire map v t file call off written z (Err e) some within below looks plain k h =
     IsRefused-between wire t.wire map t.map v (after_lease v file z) t.files t.files file call (ops.Write off written) off (length written) e (alone-lease v file z within) (alone-same t.files file) (ap (λ (x : FileHands). x) k.files.hands ∙ hands-lease v file z)
     (IsRefused-sent (stand wire (after_lease v file z) map) t file call (ops.Write off written) (ways.ReqSaw z) off (length written) e k looks h)
 
@@ -351,13 +354,12 @@ leaves-request wire map v n t file call z way within is rest =
     let k = subst (λ (b : BoardView). SendsRest (stand wire b map) call way t) is rest in
     LeavesAll-between wire t.wire map t.map v (after_lease v file z) t.files t.files file (alone-lease v file z within) (alone-same t.files file) (k.files.hands ∙ hands-lease v file z) (LeavesAll-sent (stand wire (after_lease v file z) map) t call way k)
 
-pub writes-request : (wire : WireView) (map : MapView) (v n : BoardView) (t : Stand) (file call off : ℕ) (written : List ℕ) (z : ℕ) (r : Result Done Refusal) → 0 < range_count map → file < length v.files → z < off + length written → NoLooks map → (v.plain ≡ true → z ≡ size_of (file_at v file)) → (wire.honest ≡ true → wire.stays ≡ false → v.plain ≡ true) → n ≡ after_lease v file z
-    → SendsRest (stand wire n map) call (ways.ReqSaw z) t → Sends (stand wire n map) file call (ops.Write off written) (ways.ReqSaw z) r t → IfOk r (λ d. wire.honest ≡ true → wire.stays ≡ true → ClosesNotes (file_at n file) (file_at t.files file)) → Writes (stand wire v map) file call off written r t
-writes-request wire map v n t file call off written z r some within below looks plain whole is k h closes =
-    Writes-request wire map v t file call off written z r some within below looks plain whole
+pub writes-request : (wire : WireView) (map : MapView) (v n : BoardView) (t : Stand) (file call off : ℕ) (written : List ℕ) (z : ℕ) (r : Result Done Refusal) → 0 < range_count map → file < length v.files → z < off + length written → NoLooks map → (v.plain ≡ true → z ≡ size_of (file_at v file)) → n ≡ after_lease v file z
+    → SendsRest (stand wire n map) call (ways.ReqSaw z) t → Sends (stand wire n map) file call (ops.Write off written) (ways.ReqSaw z) r t → Writes (stand wire v map) file call off written r t
+writes-request wire map v n t file call off written z r some within below looks plain is k h =
+    Writes-request wire map v t file call off written z r some within below looks plain
     (subst (λ (b : BoardView). SendsRest (stand wire b map) call (ways.ReqSaw z) t) is k)
     (subst (λ (b : BoardView). Sends (stand wire b map) file call (ops.Write off written) (ways.ReqSaw z) r t) is h)
-    (subst (λ (b : BoardView). IfOk r (λ d. wire.honest ≡ true → wire.stays ≡ true → ClosesNotes (file_at b file) (file_at t.files file))) is closes)
 
 pub leaves-through : (wire wire' : WireView) (map map' : MapView) (v l w n : BoardView) (file z : ℕ) → file < length v.files → file < length w.files → l ≡ leased v file z → n ≡ unleased w file → LeavesAll (stand wire l map) (stand wire' w map') → LeavesAll (stand wire v map) (stand wire' n map')
 leaves-through wire wire' map map' v l w n file z in_v in_w is last h =

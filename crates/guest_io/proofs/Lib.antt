@@ -1,3 +1,4 @@
+pub mod Noting
 pub mod DirectLaws
 pub mod Asked
 pub mod Entered
@@ -11,7 +12,6 @@ pub mod Holding
 pub mod Passing
 pub mod Homing
 pub mod Reading
-pub mod Closing
 pub mod Truncating
 pub mod Leasing
 pub mod HoldLaws

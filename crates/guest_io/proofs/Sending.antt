@@ -135,13 +135,13 @@ pub record Enters (s : Stand) (file call : ℕ) (op : Op) (way : Way) (reply : R
   pub place : ℕ
   pub directs : Directs s.files file call way op (record { place = place; answer = answer_in reply }) t.files
 
-pub enters-carried : (s t : Stand) (call : ℕ) (way : Way) (m : Message) (file : ℕ) (op : Op) (reply : World → Reply) (bytes : List ℕ) → file < length s.files.files → s.files.hands.turn ≡ None → IsOnFile s.wire.state s.files.hands.bar m file op reply
+pub enters-carried : (s t : Stand) (call : ℕ) (way : Way) (m : Message) (file : ℕ) (op : Op) (reply : World → Reply) (bytes : List ℕ) → file < length s.files.files → s.files.hands.turn ≡ None → (s.wire.stays ≡ false → s.files.plain ≡ true) → IsSoundBoard t.files file → IsOnFile s.wire.state s.files.hands.bar m file op reply
     → (c : Carries s.wire (world_at s.wire (boards (marked s.files call way) s.map)) m file op reply bytes (world_at t.wire (boards t.files t.map))) → Enters s file call op way (reply (served_in s.wire.stays (world_at s.wire (boards (marked s.files call way) s.map)) file c.more)) t
-enters-carried s t call way m file op reply bytes within free h c =
+enters-carried s t call way m file op reply bytes within free whole sound h c =
     let v = marked s.files call way in
     let u = served_in s.wire.stays (world_at s.wire (boards v s.map)) file c.more in
     let a : Applied = file_answer (file_at (mid s.wire.stays v file c.more) file) op in
-    let made = directs-by s.wire.stays v file c.more op a within free c.others refl in
+    let made = directs-by s.wire.stays v file c.more op a within free c.others refl whole (subst (λ (b : BoardView). IsSoundBoard b file) c.files sound) in
     let there = subst (λ (b : BoardView). Directs v file call way op (record { place = a.place; answer = a.answer }) b) (sym c.files) made in
     record {
       place = a.place;
@@ -197,8 +197,8 @@ is-some n r some e = true≢false (sym (subst (λ (x : Reply). IsSome (form_of x
 -- a value was answered that says the reply
 pub enters-answered : {S V : Type 0} (wire : S → WireView) (gives : S → Boards → Sent → Result (List ℕ) WireError → S → Boards → Type 0) (says : V → Reply → Type 0) (before : S) (old : Boards) (call : ℕ) (way : Way) (m : Message) (file : ℕ) (op : Op) (reply : World → Reply) (v : V) (said : Reply) (after : S) (new : Boards)
     → Answers wire gives says before (boards (marked old.files call way) old.map) m (Ok v) after new → ((r : Reply) → says v r → r ≡ said)
-    → file < length old.files.files → old.files.hands.turn ≡ None → IsSoundBoard new.files file → IsOnFile (wire before).state old.files.hands.bar m file op reply → (wire before).honest ≡ true → Enters (stand (wire before) old.files old.map) file call op way said (stand (wire after) new.files new.map)
-enters-answered wire gives says before old call way m file op reply v said after new (bytes, came, (r, is, by)) to within free sound h honest =
+    → file < length old.files.files → old.files.hands.turn ≡ None → ((wire before).stays ≡ false → old.files.plain ≡ true) → IsSoundBoard new.files file → IsOnFile (wire before).state old.files.hands.bar m file op reply → (wire before).honest ≡ true → Enters (stand (wire before) old.files old.map) file call op way said (stand (wire after) new.files new.map)
+enters-answered wire gives says before old call way m file op reply v said after new (bytes, came, (r, is, by)) to within free whole sound h honest =
     let s = stand (wire before) old.files old.map in
     let t = stand (wire after) new.files new.map in
     let w = world_at (wire before) (boards (marked old.files call way) old.map) in
@@ -206,28 +206,28 @@ enters-answered wire gives says before old call way m file op reply v said after
     let c = carries (wire before) w m file op reply bytes x refl came.spelled h (came.honest honest) in
     let heard_it = hears (wire before) w m file op reply bytes x refl came.spelled h c (small-before s t call way m file op reply bytes within sound c) in
     let e : reply (served_in (wire before).stays w file c.more) ≡ said = same-reply (reply (served_in (wire before).stays w file c.more)) r (heard m bytes) heard_it is ∙ to r by in
-    subst (λ (y : Reply). Enters s file call op way y t) e (enters-carried s t call way m file op reply bytes within free h c)
+    subst (λ (y : Reply). Enters s file call op way y t) e (enters-carried s t call way m file op reply bytes within free whole sound h c)
 
 -- ---- why it was refused
 
 -- after want of memory: nothing, or its entry
-undone-or-done : (s t : Stand) (call : ℕ) (way : Way) (m : Message) (file : ℕ) (op : Op) (reply : World → Reply) → file < length s.files.files → s.files.hands.turn ≡ None → IsOnFile s.wire.state s.files.hands.bar m file op reply
+undone-or-done : (s t : Stand) (call : ℕ) (way : Way) (m : Message) (file : ℕ) (op : Op) (reply : World → Reply) → file < length s.files.files → s.files.hands.turn ≡ None → (s.wire.stays ≡ false → s.files.plain ≡ true) → IsSoundBoard t.files file → IsOnFile s.wire.state s.files.hands.bar m file op reply
     → Leaves s.wire (world_at s.wire (boards (marked s.files call way) s.map)) m file op reply (world_at t.wire (boards t.files t.map)) → IsUndone s.files file t.files ⊎ ((d : Done) × Directs s.files file call way op d t.files)
-undone-or-done s t call way m file op reply within free h l =
+undone-or-done s t call way m file op reply within free whole sound h l =
     let v = marked s.files call way in
     elim l.files [
       | inl same ↦ inl (undone-unmarked s.files call way file t.files (subst (λ (b : BoardView). IsUndone v file b) (sym same) (undone-same v file)))
-      | inr (inl seen) ↦ inl (undone-unmarked s.files call way file t.files (subst (λ (b : BoardView). IsUndone v file b) (sym seen.files) (undone-by s.wire.stays v file seen.more within seen.others)))
+      | inr (inl seen) ↦ inl (undone-unmarked s.files call way file t.files (subst (λ (b : BoardView). IsUndone v file b) (sym seen.files) (undone-by s.wire.stays v file seen.more within seen.others (subst (λ (b : BoardView). IsSoundBoard b file) seen.files sound))))
       | inr (inr carried) ↦
           let c = carried.1 in
-          let k = enters-carried s t call way m file op reply carried.0 within free h c in
+          let k = enters-carried s t call way m file op reply carried.0 within free whole sound h c in
           inr (record { place = k.place; answer = answer_in (reply (served_in s.wire.stays (world_at s.wire (boards v s.map)) file c.more)) }, k.directs)
     ]
 
 pub Sends-refused : {S V : Type 0} (wire : S → WireView) (gives : S → Boards → Sent → Result (List ℕ) WireError → S → Boards → Type 0) (says : V → Reply → Type 0) (before : S) (old : Boards) (call : ℕ) (way : Way) (m : Message) (file : ℕ) (op : Op) (reply : World → Reply) (refusal : WireRefusal) (after : S) (new : Boards) (e : Refusal)
     → Answers wire gives says before (boards (marked old.files call way) old.map) m (Err refusal) after new → IsRefusalOf refusal e
-    → file < length old.files.files → old.files.hands.turn ≡ None → IsSoundBoard new.files file → ((wire before).honest ≡ true → IsOnFile (wire before).state old.files.hands.bar m file op reply) → Sends (stand (wire before) old.files old.map) file call op way (Err e) (stand (wire after) new.files new.map)
-Sends-refused wire gives says before old call way m file op reply (wires.Errno number) after new e (bytes, came, is) of within free sound h =
+    → file < length old.files.files → old.files.hands.turn ≡ None → ((wire before).honest ≡ true → (wire before).stays ≡ false → old.files.plain ≡ true) → IsSoundBoard new.files file → ((wire before).honest ≡ true → IsOnFile (wire before).state old.files.hands.bar m file op reply) → Sends (stand (wire before) old.files old.map) file call op way (Err e) (stand (wire after) new.files new.map)
+Sends-refused wire gives says before old call way m file op reply (wires.Errno number) after new e (bytes, came, is) of within free whole sound h =
     rw of (not-true (wire before).honest (λ honest.
     let s = stand (wire before) old.files old.map in
     let t = stand (wire after) new.files new.map in
@@ -237,13 +237,13 @@ Sends-refused wire gives says before old call way m file op reply (wires.Errno n
     let c = carries (wire before) w m file op reply bytes x refl came.spelled k (came.honest honest) in
     let heard_it = hears (wire before) w m file op reply bytes x refl came.spelled k c (small-before s t call way m file op reply bytes within sound c) in
     is-some number (reply (served_in (wire before).stays w file c.more)) (k.success (served_in (wire before).stays w file c.more)) (same-reply (reply (served_in (wire before).stays w file c.more)) (replies.Error number) (heard m bytes) heard_it is)))
-Sends-refused wire gives says before old call way m file op reply (wires.BadReply bad) after new e (not_honest, received) of within free sound h = rw of not_honest
-Sends-refused wire gives says before old call way m file op reply wires.WireFault after new e (not_honest, rose, came) of within free sound h = rw of (not_honest, rose)
-Sends-refused {V = V} wire gives says before old call way m file op reply wires.Memory after new e answer of within free sound h =
+Sends-refused wire gives says before old call way m file op reply (wires.BadReply bad) after new e (not_honest, received) of within free whole sound h = rw of not_honest
+Sends-refused wire gives says before old call way m file op reply wires.WireFault after new e (not_honest, rose, came) of within free whole sound h = rw of (not_honest, rose)
+Sends-refused {V = V} wire gives says before old call way m file op reply wires.Memory after new e answer of within free whole sound h =
     let s = stand (wire before) old.files old.map in
     let t = stand (wire after) new.files new.map in
     let none : Result V WireRefusal = Err wires.Memory in
-    rw of (λ honest. undone-or-done s t call way m file op reply within free (h honest) (leaves wire gives says before (boards (marked old.files call way) old.map) m file op reply none after new answer honest (h honest)))
+    rw of (λ honest. undone-or-done s t call way m file op reply within free (whole honest) sound (h honest) (leaves wire gives says before (boards (marked old.files call way) old.map) m file op reply none after new answer honest (h honest)))
 
 -- ---- a call of the client, whose board was marked before it
 
@@ -256,6 +256,7 @@ pub record Asks {S V : Type 0} (wire : S → WireView) (gives : S → Boards →
   pub both : KeepsBoards (boards asked old.map) new
   pub within : file < length old.files.files
   pub free : old.files.hands.turn ≡ None
+  pub whole : (wire before).honest ≡ true → (wire before).stays ≡ false → old.files.plain ≡ true
   pub sound : IsSoundBoard new.files file
   pub on_file : (wire before).honest ≡ true → IsOnFile (wire before).state old.files.hands.bar m file op reply
 
@@ -274,13 +275,13 @@ pub asks-answered : {S V : Type 0} (wire : S → WireView) (gives : S → Boards
 asks-answered {V = V} wire gives says before old call way m file op reply v said after new own unique result a to sound is entered_by =
     let ok : Result V WireRefusal = Ok v in
     Sends-entered (stand (wire before) old.files old.map) (stand (wire after) new.files new.map) file call op way own unique said result sound is entered_by
-    (λ honest. enters-answered wire gives says before old call way m file op reply v said after new (subst (λ (b : BoardView). Answers wire gives says before (boards b old.map) m ok after new) a.marks a.answer) to a.within a.free a.sound (a.on_file honest) honest)
+    (λ honest. enters-answered wire gives says before old call way m file op reply v said after new (subst (λ (b : BoardView). Answers wire gives says before (boards b old.map) m ok after new) a.marks a.answer) to a.within a.free (a.whole honest) a.sound (a.on_file honest) honest)
 
 pub asks-refused : {S V : Type 0} (wire : S → WireView) (gives : S → Boards → Sent → Result (List ℕ) WireError → S → Boards → Type 0) (says : V → Reply → Type 0) (before : S) (old : Boards) (call : ℕ) (way : Way) (m : Message) (file : ℕ) (op : Op) (reply : World → Reply) (refusal : WireRefusal) (after : S) (new : Boards) (e : Refusal)
     → Asks wire gives says before old call way m file op reply (Err refusal) after new → IsRefusalOf refusal e → Sends (stand (wire before) old.files old.map) file call op way (Err e) (stand (wire after) new.files new.map)
 asks-refused {V = V} wire gives says before old call way m file op reply refusal after new e a is =
     let bad : Result V WireRefusal = Err refusal in
-    Sends-refused wire gives says before old call way m file op reply refusal after new e (subst (λ (b : BoardView). Answers wire gives says before (boards b old.map) m bad after new) a.marks a.answer) is a.within a.free a.sound a.on_file
+    Sends-refused wire gives says before old call way m file op reply refusal after new e (subst (λ (b : BoardView). Answers wire gives says before (boards b old.map) m bad after new) a.marks a.answer) is a.within a.free a.whole a.sound a.on_file
 
 -- the boards serve it
 pub CanAsk-marked : (s : Stand) (refs : List FileRef) (call : ℕ) (way : Way) (asked : BoardView) (q : Request) → asked ≡ marked s.files call way → Needs s.wire.state asked s.map q → Stands s refs → CanAsk s.wire (boards asked s.map) q

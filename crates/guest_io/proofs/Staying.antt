@@ -10,6 +10,7 @@ use Rattle.plain_file.specs.declared.operations.Applied.{Applied}
 use Rattle.plain_file.specs.declared.refusals.BoardRefusal.{BoardRefusal}
 use Rattle.plain_file.specs.declared.refusals.BoardRefusal.TheVariants as refusals
 use Rattle.plain_file.specs.Board.{FileView, BoardView, no_file, file_at, applied, marked}
+use Rattle.plain_file.specs.Sound.{IsSoundBoard}
 use Rattle.plain_file.specs.Turns.{AppliesAs, AreOthers, entered, seen_file, left}
 use Rattle.plain_file.proofs.OneFile.{file_at-with_file, file_at-with_other}
 use Rattle.guest_wire.specs.Keeps.{KeepsFiles}
@@ -86,11 +87,12 @@ StaysBoard-as v file call way op (Ok a) w within free (more, mid, others, sound,
 StaysBoard-as v file call way op (Err (refusals.Unbarred size)) w within free (more, mid, others, sound, (may, is, d), last) = stays-at v w mid (entered (marked v call way) file more) file last d (stays-seen v file call way more within free)
 StaysBoard-as v file call way op (Err refusals.Memory) w within free (more, mid, others, sound, d, last) = stays-at v w mid (entered (marked v call way) file more) file last d (stays-seen v file call way more within free)
 
-undone-at : (v w mid : BoardView) (file call : ℕ) (way : Way) (more : List Entry) → file < length v.files → AreOthers (marked v call way) more → w ≡ left mid file → mid ≡ entered (marked v call way) file more → IsUndone v file w
-undone-at v w mid file call way more within others last is =
-    subst (λ (b : BoardView). IsUndone v file b) (sym (last ∙ ap (λ (b : BoardView). left b file) is)) (undone-unmarked v call way file (left (entered (marked v call way) file more) file) (undone-by true (marked v call way) file more within others))
+undone-at : (v w mid : BoardView) (file call : ℕ) (way : Way) (more : List Entry) → file < length v.files → AreOthers (marked v call way) more → w ≡ left mid file → mid ≡ entered (marked v call way) file more → IsSoundBoard w file → IsUndone v file w
+undone-at v w mid file call way more within others last is sound =
+    let e = last ∙ ap (λ (b : BoardView). left b file) is in
+    subst (λ (b : BoardView). IsUndone v file b) (sym e) (undone-unmarked v call way file (left (entered (marked v call way) file more) file) (undone-by true (marked v call way) file more within others (subst (λ (b : BoardView). IsSoundBoard b file) e sound)))
 
-pub IsUndone-as : (v : BoardView) (file call : ℕ) (way : Way) (op : Op) (result : Result Applied BoardRefusal) (e : BoardRefusal) (w : BoardView) → file < length v.files → result ≡ Err e → AppliesAs (marked v call way) file op result w → IsUndone v file w
-IsUndone-as v file call way op (Ok a) e w within is h = absurd cc
-IsUndone-as v file call way op (Err (refusals.Unbarred size)) e w within is (more, mid, others, sound, (may, by, d), last) = undone-at v w mid file call way more within others last d
-IsUndone-as v file call way op (Err refusals.Memory) e w within is (more, mid, others, sound, d, last) = undone-at v w mid file call way more within others last d
+pub IsUndone-as : (v : BoardView) (file call : ℕ) (way : Way) (op : Op) (result : Result Applied BoardRefusal) (e : BoardRefusal) (w : BoardView) → file < length v.files → result ≡ Err e → AppliesAs (marked v call way) file op result w → IsSoundBoard w file → IsUndone v file w
+IsUndone-as v file call way op (Ok a) e w within is h now = absurd cc
+IsUndone-as v file call way op (Err (refusals.Unbarred size)) e w within is (more, mid, others, sound, (may, by, d), last) now = undone-at v w mid file call way more within others last d now
+IsUndone-as v file call way op (Err refusals.Memory) e w within is (more, mid, others, sound, d, last) now = undone-at v w mid file call way more within others last d now

@@ -1,10 +1,11 @@
 -- A truncation: its request under the bar on the file, and the bar that is had and given back.
-use Rattle.std.proofs.Common.{◌≡◌, ◌∙◌, ap, sym, refl, subst, arith, ℕ, ◌+◌, ◌-◌, ◌<◌, ◌≤◌, ◌^◌, Bool, true, false, length, Option, Some, None, Ok, is_some}
+use Rattle.std.proofs.Common.{◌≡◌, ◌∙◌, ap, sym, refl, subst, arith, ℕ, ◌+◌, ◌-◌, ◌<◌, ◌≤◌, ◌^◌, Bool, true, false, length, Option, Some, None, Result, Ok, Err, inl, inr, is_some}
 use Rattle.std.specs.Prelude.{◌||◌, nat_lt}
 use Rattle.std.proofs.lemmas.Bool.{eq-eqb, le-ltb}
 use Rattle.plain_file.specs.declared.operations.Op.{Op}
 use Rattle.plain_file.specs.declared.operations.Op.TheVariants as ops
 use Rattle.plain_file.specs.declared.operations.Way.{Way}
+use Rattle.plain_file.specs.declared.operations.Way.TheVariants as ways
 use Rattle.plain_file.specs.File.{max_file, answer}
 use Rattle.plain_file.specs.Board.{FileView, FileHands, BoardView, is_file, file_may_apply, may_apply, file_at, applied, file_answer}
 use Rattle.plain_file.specs.Counts.{more_by_one}
@@ -29,7 +30,12 @@ use Rattle.guest_wire.specs.Requests.{message, setattr_request}
 use Rattle.guest_dax.specs.Stands.{Stand}
 use Rattle.guest_dax.proofs.Keeping.{KeepsMap-same}
 use Rattle.guest_dax.proofs.Walking.{KeepsMap-pages}
-use Rattle.guest_io.specs.Requests.{SendsRest, answer_in}
+use Rattle.guest_io.specs.declared.calls.Done.{Done}
+use Rattle.guest_io.specs.declared.calls.Refusal.{Refusal}
+use Rattle.guest_io.specs.declared.calls.Refusal.TheVariants as refusals
+use Rattle.guest_io.specs.Calls.{Directs}
+use Rattle.guest_io.specs.Requests.{SendsRest, IsUndone, Sends, answer_in}
+use Rattle.guest_io.specs.Truncates.{Truncates}
 use Rattle.guest_io.specs.Going.{StaysBoard, LeavesAll}
 use Rattle.guest_io.proofs.Asked.{IsOnFile, GoesOver}
 use Rattle.guest_io.proofs.OnFiles.{IsHandle, links_fit}
@@ -109,6 +115,35 @@ leaves-under old new file call way none k = record {
 pub leaves-barred : (old mid new : Stand) (file call : ℕ) (way : Way) (w : BoardView) → old.files.hands.bar ≡ None → mid ≡ under_bar old file → w ≡ with_bar new.files None → SendsRest mid call way new → LeavesAll old (record new { files = w })
 leaves-barred old mid new file call way w none is back k =
     subst (λ (b : BoardView). LeavesAll old (record new { files = b })) (sym back) (leaves-under old new file call way none (subst (λ (s : Stand). SendsRest s call way new) is k))
+
+-- ---- what was sent under it
+
+directs-barred : (v w : BoardView) (file call : ℕ) (way : Way) (op : Op) (d : Done) → v.hands.bar ≡ None → Directs (with_bar v (Some file)) file call way op d w → Directs v file call way op d (with_bar w None)
+directs-barred v w file call way op d none k = record { done = k.done; others = k.others; hands = no-bar v.hands w.hands (Some file) none k.hands; guest = k.guest; count = k.count; closes = k.closes }
+
+undone-barred : (v w : BoardView) (file : ℕ) → IsUndone (with_bar v (Some file)) file w → IsUndone v file (with_bar w None)
+undone-barred v w file k = record { more = k.more; others = k.others; history = k.history; own = k.own; stay = k.stay; notes = k.notes }
+
+truncates-under : (old new : Stand) (file call size : ℕ) (r : Result Done Refusal) → old.files.hands.bar ≡ None → leases_on old.files file ≡ 0 → Sends (under_bar old file) file call (ops.Truncate size) ways.Req r new → Truncates old file call size r (record new { files = with_bar new.files None })
+truncates-under old new file call size (Ok d) none free (newest, does) = (free, (newest, λ honest. directs-barred old.files new.files file call ways.Req (ops.Truncate size) d none (does honest)))
+truncates-under old new file call size (Err (refusals.Busy looked)) none free h = (free, h)
+truncates-under old new file call size (Err (refusals.Leased count)) none free h = absurd h
+truncates-under old new file call size (Err (refusals.NoHold hold)) none free h = (free, h)
+truncates-under old new file call size (Err (refusals.Past end)) none free h = (free, h)
+truncates-under old new file call size (Err (refusals.Errno number)) none free h = (free, h)
+truncates-under old new file call size (Err (refusals.BadReply bytes)) none free h = (free, h)
+truncates-under old new file call size (Err refusals.WireFault) none free h = (free, h)
+truncates-under old new file call size (Err refusals.Memory) none free h = (
+  free,
+  λ honest. elim (h honest) [
+    | inl undone ↦ inl (undone-barred old.files new.files file undone)
+    | inr made ↦ inr (made.0, directs-barred old.files new.files file call ways.Req (ops.Truncate size) made.0 none made.1)
+  ],
+)
+
+pub truncates-barred : (old mid new : Stand) (file call size : ℕ) (r : Result Done Refusal) (w : BoardView) → old.files.hands.bar ≡ None → leases_on old.files file ≡ 0 → mid ≡ under_bar old file → w ≡ with_bar new.files None → Sends mid file call (ops.Truncate size) ways.Req r new → Truncates old file call size r (record new { files = w })
+truncates-barred old mid new file call size r w none free is back h =
+    subst (λ (b : BoardView). Truncates old file call size r (record new { files = b })) (sym back) (truncates-under old new file call size r none free (subst (λ (s : Stand). Sends s file call (ops.Truncate size) ways.Req r new) is h))
 
 -- ---- the bar was refused
 

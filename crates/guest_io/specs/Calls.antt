@@ -1,5 +1,5 @@
 -- What a call of a guest answers, and what it leaves of the files and the ranges: all that a line of a transcript needs.
-use Rattle.std.specs.Prelude.{◌≡◌, ◌≢◌, ℕ, ◌+◌, ◌-◌, ◌/◌, ◌≤◌, true, List, [], ◌∷◌, ◌++◌, length, Option, Some, None, IfSome, All}
+use Rattle.std.specs.Prelude.{◌≡◌, ◌≢◌, ℕ, ◌+◌, ◌-◌, ◌/◌, ◌≤◌, true, false, List, [], ◌∷◌, ◌++◌, length, Option, Some, None, IfSome, All}
 use Rattle.plain_file.specs.declared.operations.Op.{Op}
 use Rattle.plain_file.specs.declared.operations.Way.{Way}
 use Rattle.plain_file.specs.declared.operations.Entry.{Entry}
@@ -13,6 +13,7 @@ use Rattle.page_map.specs.declared.pages.Mode.{Mode}
 use Rattle.page_map.specs.declared.ranges.LogEntry.{LogEntry}
 use Rattle.range_tree.specs.Logs.{is_live}
 use Rattle.guest_io.specs.declared.calls.Done.{Done}
+use Rattle.guest_io.specs.Notes.{ClosesNotes}
 
 -- ---- chunks
 
@@ -48,13 +49,14 @@ pub record IsDone (guest call : ℕ) (op : Op) (way : Way) (old new : FileView) 
 abbrev pub OthersStay : BoardView → ℕ → BoardView → Type 0
 OthersStay old file new = (f : ℕ) → f ≢ file → file_at new f ≡ file_at old f
 
--- The files afterwards: one has the call's entry, and nothing else is in hand.
+-- The files afterwards: one has the call's entry, and nothing else is in hand. On a shared board each size that was noted of the file has got its upper end.
 pub record Directs (old : BoardView) (file call : ℕ) (way : Way) (op : Op) (d : Done) (new : BoardView) : Type 0 where
   pub done : IsDone old.guest call op way (file_at old file) (file_at new file) d
   pub others : OthersStay old file new
   pub hands : new.hands ≡ old.hands
   pub guest : new.guest ≡ old.guest
   pub count : length new.files ≡ length old.files
+  pub closes : old.plain ≡ false → ClosesNotes (file_at old file) (file_at new file)
 
 -- ---- a direct operation
 

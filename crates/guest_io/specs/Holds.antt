@@ -22,6 +22,7 @@ use Rattle.guest_io.specs.declared.calls.Refusal.TheVariants as refusals
 use Rattle.guest_io.specs.declared.guest.Granted.{Granted}
 use Rattle.guest_io.specs.declared.guest.Holds.{Holds}
 use Rattle.guest_io.specs.Calls.{Directs, KeepsFloor, IsThrough}
+use Rattle.guest_io.specs.Notes.{SameNotes, IsOpenNote}
 use Rattle.guest_io.specs.Requests.{IsUndone}
 use Rattle.guest_io.specs.Going.{IsBusy}
 
@@ -116,10 +117,11 @@ pub record LeavesRest (old new : Stand) : Type 0 where
   pub files : RestsBoard old.files new.files
   pub map : RestsMap old.map new.map
 
--- no history has an entry more, and no entry more is the board's own
+-- no history has an entry more, no entry more is the board's own, and what was noted stays so
 pub record SameEntries (old new : BoardView) : Type 0 where
   pub history : (file : ℕ) → (file_at new file).history ≡ (file_at old file).history
   pub own : (file : ℕ) → (file_at new file).own ≡ (file_at old file).own
+  pub notes : (file : ℕ) → SameNotes (file_at old file) (file_at new file)
 
 -- ---- asking for a hold
 
@@ -150,6 +152,7 @@ pub record IsGranted (old : Stand) (h : Holds) (of_file of_chunk : ℕ) (of_mode
   pub floor : (file_at new.files of_file).floor ≡ Some noted
   pub plain : old.files.plain ≡ true → noted ≡ size_of (file_at old.files of_file)
   pub kept : IsSome old.files.over → IsNoted old.files of_file noted new.files
+  pub open_note : old.wire.honest ≡ true → IsSome old.files.over → IsOpenNote old.files of_file noted new.files
 
 -- nothing more is pinned or leased than before, and the refused hold has its number
 pub record IsNotGranted (old : Stand) (h : Holds) (new : Stand) (k : Holds) : Type 0 where

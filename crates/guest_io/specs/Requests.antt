@@ -1,13 +1,12 @@
 -- What a request about a file is answered, and what it leaves.
-use Rattle.std.specs.Prelude.{◌≡◌, ◌≢◌, ℕ, ◌+◌, true, false, List, ◌++◌, length, slice_get, Option, Some, None, Result, Ok, Err, ◌⊎◌, All}
+use Rattle.std.specs.Prelude.{◌≡◌, ◌≢◌, ℕ, true, false, List, ◌++◌, Option, Some, Result, Ok, Err, ◌⊎◌, All}
 use Rattle.plain_file.specs.Counts.{Rose}
 use Rattle.plain_file.specs.declared.operations.Answer.{Answer}
 use Rattle.plain_file.specs.declared.operations.Answer.TheVariants as answers
 use Rattle.plain_file.specs.declared.operations.Entry.{Entry}
 use Rattle.plain_file.specs.declared.operations.Op.{Op}
 use Rattle.plain_file.specs.declared.operations.Way.{Way}
-use Rattle.plain_file.specs.Board.{Note, FileView, BoardView, file_at, marked, last_of}
-use Rattle.plain_file.specs.Sound.{IsFresh}
+use Rattle.plain_file.specs.Board.{BoardView, file_at, marked, last_of}
 use Rattle.fuse_codec.specs.Replies.{clean_reply}
 use Rattle.fuse_codec.specs.declared.replies.Reply.{Reply}
 use Rattle.fuse_codec.specs.declared.replies.Reply.TheVariants as replies
@@ -18,6 +17,7 @@ use Rattle.guest_wire.specs.declared.wires.WireRefusal.{WireRefusal}
 use Rattle.guest_wire.specs.declared.wires.WireRefusal.TheVariants as wires
 use Rattle.guest_dax.specs.Stands.{Stand, Stands}
 use Rattle.guest_io.specs.Calls.{Directs, OthersStay}
+use Rattle.guest_io.specs.Notes.{KeepsNotes}
 use Rattle.guest_io.specs.declared.calls.Done.{Done}
 use Rattle.guest_io.specs.declared.calls.Refusal.{Refusal}
 use Rattle.guest_io.specs.declared.calls.Refusal.TheVariants as refusals
@@ -64,13 +64,14 @@ pub record SendsRest (old : Stand) (call : ℕ) (way : Way) (new : Stand) : Type
   pub files : KeepsFiles (marked old.files call way) new.files
   pub map : KeepsPages old.map new.map
 
--- No operation was done: of one file others' entries may have been seen.
+-- No operation was done: of one file others' entries may have been seen, and sizes that were noted may have got their upper ends.
 pub record IsUndone (old : BoardView) (file : ℕ) (new : BoardView) : Type 0 where
   pub more : List Entry
   pub others : All (λ e. e.guest ≢ old.guest) more
   pub history : (file_at new file).history ≡ (file_at old file).history ++ more
   pub own : (file_at new file).own ≡ (file_at old file).own
   pub stay : OthersStay old file new
+  pub notes : KeepsNotes (file_at old file) (file_at new file)
 
 -- the newest entry of the board in the file is a new one, at this place
 abbrev pub IsNewest : BoardView → ℕ → ℕ → BoardView → Type 0
@@ -87,7 +88,3 @@ Sends old file call op way (Err (refusals.Errno number)) new = old.wire.honest �
 Sends old file call op way (Err (refusals.BadReply bytes)) new = old.wire.honest ≡ false
 Sends old file call op way (Err refusals.WireFault) new = (old.wire.honest ≡ false) × Rose old.wire.faults new.wire.faults
 Sends old file call op way (Err refusals.Memory) new = old.wire.honest ≡ true → IsUndone old.files file new.files ⊎ ((d : Done) × Directs old.files file call way op d new.files)
-
--- Each size that was noted, and had no upper end, is that of the file between its lower end and the place of the newest entry.
-abbrev pub ClosesNotes : FileView → FileView → Type 0
-ClosesNotes old new = (k : ℕ) (n : Note) → slice_get old.notes k ≡ Some n → n.upper ≡ None → (place : ℕ) × (length new.history ≡ place + 1) × IsFresh new.first new.history n.lower place n.size

@@ -1,4 +1,4 @@
-ghost use Rattle.std.specs.Prelude.{◌≡◌, ◌<◌, ◌≤◌, ◌+◌, ℕ, true, Some, IfOk, length};
+ghost use Rattle.std.specs.Prelude.{◌≡◌, ◌<◌, ◌≤◌, ◌+◌, ℕ, true, Some, length};
 ghost use Rattle.plain_file.specs.File.{max_file};
 ghost use Rattle.plain_file.specs.Limits.{max_transfer};
 ghost use Rattle.plain_file.specs.Board.{file_at};
@@ -6,7 +6,7 @@ ghost use Rattle.plain_file.specs.declared.operations.Op.TheVariants as ops;
 ghost use Rattle.plain_file.specs.declared.operations.Way.TheVariants as ways;
 ghost use Rattle.fuse_codec.specs.Replies.{is_reply};
 ghost use Rattle.guest_dax.specs.Stands.{stand, ref_at};
-ghost use Rattle.guest_io.specs.Requests.{IsHome, IsEntered, IsNotDone, answer_in, SendsRest, Sends, ClosesNotes, IsRefusalOf};
+ghost use Rattle.guest_io.specs.Requests.{IsHome, IsEntered, IsNotDone, answer_in, SendsRest, Sends, IsRefusalOf};
 ghost use Rattle.guest_io.specs.Going.{LeavesAll, KeepsRounds};
 
 use crate::calls::{Done, Refusal};
@@ -204,7 +204,6 @@ where
         ensures home { IsHome (stand (W.wire self.new.dax.driver.wire) (F.board self.new.dax.files) (R.map self.new.dax.ranges)) self.new.dax.refs }
         ensures rest { SendsRest (stand (W.wire self.old.dax.driver.wire) (F.board self.old.dax.files) (R.map self.old.dax.ranges)) call way (stand (W.wire self.new.dax.driver.wire) (F.board self.new.dax.files) (R.map self.new.dax.ranges)) }
         ensures sends { Sends (stand (W.wire self.old.dax.driver.wire) (F.board self.old.dax.files) (R.map self.old.dax.ranges)) file call (ops.Write off bytes.now) way result (stand (W.wire self.new.dax.driver.wire) (F.board self.new.dax.files) (R.map self.new.dax.ranges)) }
-        ensures closes { IfOk result (λ d. (W.wire self.old.dax.driver.wire).honest ≡ true → (W.wire self.old.dax.driver.wire).stays ≡ true → ClosesNotes (file_at (F.board self.old.dax.files) file) (file_at (F.board self.new.dax.files) file)) }
         ensures refs { self.new.dax.refs ≡ self.old.dax.refs }
         ensures holds { self.new.holds ≡ self.old.holds }
     {

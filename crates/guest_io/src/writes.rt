@@ -120,7 +120,7 @@ where
     /// ends at most at the file's size, and no other board moves ranges, nothing is sent.
     ///
     /// There are from 1 byte to 1 MiB of them, and the interval ends at most at 64 MiB. Two pins more and
-    /// one lease more must be allowed, and no bar is had.
+    /// one lease more must be allowed, where there are ranges, and no bar is had.
     ///
     /// # Errors
     ///
@@ -143,7 +143,7 @@ where
         requires moves { (R.map self.old.dax.ranges).hands.moves ≡ None }
         requires few { sum (R.map self.old.dax.ranges).hands.pins + 1 < max_pins }
         requires looks { NoLooks (R.map self.old.dax.ranges) }
-        requires may { (F.board self.old.dax.files).may_lease ≡ true }
+        requires may { 0 < range_count (R.map self.old.dax.ranges) → (F.board self.old.dax.files).may_lease ≡ true }
         requires bar { (F.board self.old.dax.files).hands.bar ≡ None }
         requires leases { sum (F.board self.old.dax.files).hands.leases < 64 }
         ensures home { IsHome (stand (W.wire self.new.dax.driver.wire) (F.board self.new.dax.files) (R.map self.new.dax.ranges)) self.new.dax.refs }

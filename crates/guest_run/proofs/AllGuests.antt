@@ -36,7 +36,7 @@ use Rattle.dax_audit.specs.Legal.{file_line, IsLegal}
 use Rattle.guest_run.specs.Runs.{Asked, on_file, asked, the_entry, Came, IsDone, IsGranted, IsGivenBack, IsBlocked, IsLeased, IsWithoutHold, IsPast, IsTold, IsOf, IsPlaced, IsSeenBefore, IsSeenUntil, IsRun, entry_line, part_of, parts_from, IsPlayed}
 use Rattle.guest_run.proofs.Places.{none_is, some_is, within, found, same_list, in_range, range_len, in_map, map_at, map_len, bound, mapped, in_take, in_drop, in_zip, of_zip}
 use Rattle.guest_run.proofs.Asking.{IsAsking, asked_on_file, asked_keeps, access_ends, held_is_hold, any_from_to, way_right}
-use Rattle.guest_run.proofs.Guests.{IsElse, else_nowhere, done_there}
+use Rattle.guest_run.proofs.Guests.{IsElse, was_only, else_nowhere, done_there}
 
 -- the place after places below a number is at most it
 seen_within : (q seen : ℕ) (ps : List (Option ℕ)) → seen ≤ q → ((m p : ℕ) → slice_get ps m ≡ Some (Some p) → p < q) → after_places seen ps ≤ q
@@ -116,7 +116,7 @@ module _ (guest ranges : ℕ) (first : ℕ → First) (h : ℕ → List Entry) (
       let a = in_map (place_on cs f) (zip cs ls) n (Some p) e in
       let b = of_zip cs ls n a.0 a.1 in
       let q = there_if (is_file f (target cs a.0.0)) (place_of a.0.1.line) p a.2 in
-      let d = (done_there guest ranges first h logs cs ls n p a.0.0 a.0.1 q.1 (r.told n a.0.0 a.0.1 b.0 b.1)).0 in
+      let d = (done_there guest ranges first h logs (λ f. []) cs ls n p a.0.0 a.0.1 q.1 (r.told n a.0.0 a.0.1 b.0 b.1)).0 in
       let file : d.to.file ≡ f = its_file cs a.0.0 d.to f (asked_on_file cs a.0.0 d.to d.asks) q.0 in
       record {
         call = a.0.0;
@@ -141,12 +141,12 @@ module _ (guest ranges : ℕ) (first : ℕ → First) (h : ℕ → List Entry) (
   next_above f n k until known = first_from k (length (h f)) (drop (n + 1) (places_on cs ls f)) known (λ m p e. until (n + 1 + m) p (omega arith) (of_places f (n + 1 + m) p (in_drop (n + 1) (places_on cs ls f) m (Some p) e)))
 
   -- the line of a call has the call's number
-  numbered : (n : ℕ) (c : Call) (l : Numbered) → IsTold guest ranges first h logs cs ls n c l → l.call ≡ n
+  numbered : (n : ℕ) (c : Call) (l : Numbered) → IsTold guest ranges first h logs (λ f. []) cs ls n c l → l.call ≡ n
   numbered n c l =
       let number = λ (k : Numbered). k.call in ⊎_elim
       (λ (d : IsDone guest ranges first h logs cs ls n c l). ap number d.line)
       (⊎_elim
-      (λ (b : IsGranted first h logs cs ls n c l). ap number b.line)
+      (λ (b : IsGranted first h logs (λ f. []) cs ls n c l). ap number b.line)
       (⊎_elim
       (λ (b : IsGivenBack cs ls n c l). ap number b.line)
       (⊎_elim
@@ -190,7 +190,7 @@ module _ (first : ℕ → First) (h : ℕ → List Entry) (logs : ℕ → List L
     line : Numbered
     told : slice_get part.lines n ≡ Some line
     is : line.line ≡ l
-    says : IsTold g s.ranges first h logs cs part.lines n call line
+    says : IsTold g s.ranges first h logs (λ f. []) cs part.lines n call line
     calls_are : calls_of s g ≡ cs
     lines_are : lines_of t g ≡ part.lines
 
@@ -229,10 +229,10 @@ module _ (first : ℕ → First) (h : ℕ → List Entry) (logs : ℕ → List L
   Done g n l x = IsDone g s.ranges first h logs x.cs x.part.lines n x.call x.line
 
   abbrev Else : (g n : ℕ) (l : Line) → Found g n l → Type 0
-  Else g n l x = IsElse s.ranges first h logs x.cs x.part.lines n x.call x.line
+  Else g n l x = IsElse s.ranges first h logs (λ f. []) x.cs x.part.lines n x.call x.line
 
   abbrev Granted : (g n : ℕ) (l : Line) → Found g n l → Type 0
-  Granted g n l x = IsGranted first h logs x.cs x.part.lines n x.call x.line
+  Granted g n l x = IsGranted first h logs (λ f. []) x.cs x.part.lines n x.call x.line
 
   abbrev GivenBack : (g n : ℕ) (l : Line) → Found g n l → Type 0
   GivenBack g n l x = IsGivenBack x.cs x.part.lines n x.call x.line
@@ -295,7 +295,7 @@ module _ (first : ℕ → First) (h : ℕ → List Entry) (logs : ℕ → List L
   place_is g n l x d = ap place_of (line_is g n l x d) ∙ done_place d.place (answer (bytes (first d.to.file) (h d.to.file) d.place) d.to.op)
 
   no_place : (g n : ℕ) (l : Line) (x : Found g n l) (b : Else g n l x) → place_of l ≡ None
-  no_place g n l x b = ap place_of (sym x.is) ∙ else_nowhere s.ranges first h logs x.cs x.part.lines n x.call x.line b
+  no_place g n l x b = ap place_of (sym x.is) ∙ else_nowhere s.ranges first h logs (λ f. []) x.cs x.part.lines n x.call x.line b
 
   -- an entry of a history is that of a call, which is done there
   record Known (f p : ℕ) (e : Entry) : Type 0 where
@@ -329,7 +329,7 @@ module _ (first : ℕ → First) (h : ℕ → List Entry) (logs : ℕ → List L
   known_way : (f p : ℕ) (e : Entry) (k : Known f p e) → slice_get (h f) p ≡ Some e → Came s.ranges (first f) (h f) (logs f) k.cs k.part.lines e.call (hold_in k.of.call) p (record { file = f; op = e.op }) e.way
   known_way f p e k at =
       let o = k.of in
-      let x = done_there e.guest s.ranges first h logs k.cs k.part.lines e.call p o.call o.line o.place (k.run.told e.call o.call o.line o.made o.told) in
+      let x = done_there e.guest s.ranges first h logs (λ f. []) k.cs k.part.lines e.call p o.call o.line o.place (k.run.told e.call o.call o.line o.made o.told) in
       let d = x.0 in
       let to : d.to ≡ record { file = f; op = e.op } = some_is d.to (record { file = f; op = e.op }) (sym d.asks ∙ o.asks) in
       let file : d.to.file ≡ f = ap (λ (a : Asked). a.file) to in
@@ -428,13 +428,15 @@ module _ (first : ℕ → First) (h : ℕ → List Entry) (logs : ℕ → List L
   grants_right g n l x b =
       let f = b.held.file in
       let lt = r.held_files g n x.cs x.call b.held x.calls_at x.made b.asks in
-      let low = seen_under g s.ranges first h logs x.cs x.part.lines x.run f n b.seen b.since in
-      let known = b.known in
-      let high = next_above g s.ranges first h logs x.cs x.part.lines x.run f n b.seen b.until known in
-      let top : b.seen ≤ min (unwrap_or (next_place x.cs x.part.lines f n) (length (h f))) (length (h f)) = omega (arith, high, known) in
+      let w = was_only (first f) (h f) x.cs x.part.lines f n b.size b.sized in
+      let low = seen_under g s.ranges first h logs x.cs x.part.lines x.run f n w.seen w.since in
+      let known = w.known in
+      let high = next_above g s.ranges first h logs x.cs x.part.lines x.run f n w.seen w.until known in
+      let lesser : b.end ≡ min ((b.held.chunk + 1) * chunk_size) (size (first f) (h f) w.seen) = b.lesser ∙ ap (λ (z : ℕ). min ((b.held.chunk + 1) * chunk_size) z) w.is in
+      let top : w.seen ≤ min (unwrap_or (next_place x.cs x.part.lines f n) (length (h f))) (length (h f)) = omega (arith, high, known) in
       (λ i. is_live (is_writable b.held.mode) (past_is f lt i).log b.held.chunk b.through.entry b.through.upto
       && is_end (past_is f lt i) b.held.chunk b.end (seen_before x.cs x.part.lines f n) (min (unwrap_or (next_place x.cs x.part.lines f n) (length (past_is f lt i).history)) (length (past_is f lt i).history)))
-      ∙ and_from _ _ b.live (ends (the_past f) b.held.chunk b.end (seen_before x.cs x.part.lines f n) (min (unwrap_or (next_place x.cs x.part.lines f n) (length (h f))) (length (h f))) b.seen low top b.lesser)
+      ∙ and_from _ _ b.live (ends (the_past f) b.held.chunk b.end (seen_before x.cs x.part.lines f n) (min (unwrap_or (next_place x.cs x.part.lines f n) (length (h f))) (length (h f))) w.seen low top lesser)
 
   tell : (g n : ℕ) (l : Line) → line_at t g n ≡ Some l → tells_at s t g n l ≡ true
   unfolding tells

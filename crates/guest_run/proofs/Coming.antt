@@ -1,5 +1,5 @@
 -- What comes of a guest's calls over an honest wire.
-use Rattle.std.proofs.Common.{◌≡◌, ◌≢◌, ◌∙◌, ap, sym, subst, refl, ℕ, zero, suc, ◌+◌, ◌*◌, ◌<◌, true, true≢false, List, [], ◌∷◌, ◌++◌, length, get_or, slice_get, slice_set, replicate, Some, None, Result, Ok, Err, arith, ◌⊎◌, ⊎_elim}
+use Rattle.std.proofs.Common.{◌≡◌, ◌≢◌, ◌∙◌, ap, sym, subst, refl, ℕ, zero, suc, ◌+◌, ◌*◌, ◌<◌, true, true≢false, List, [], ◌∷◌, ◌++◌, length, get_or, slice_get, slice_set, replicate, Some, None, Result, Ok, Err, arith, ◌⊎◌, inl, ⊎_elim}
 use Rattle.std.specs.Prelude.{All}
 use Rattle.std.proofs.lemmas.List.{append-nil}
 use Rattle.std.proofs.lemmas.Option.{slice_get-get_or}
@@ -9,7 +9,7 @@ use Rattle.plain_file.specs.declared.operations.Entry.{Entry}
 use Rattle.plain_file.specs.declared.operations.Op.{Op}
 use Rattle.plain_file.specs.declared.operations.Op.TheVariants as ops
 use Rattle.plain_file.specs.declared.operations.Way.TheVariants as ways
-use Rattle.plain_file.specs.Board.{FileView, BoardView, no_file}
+use Rattle.plain_file.specs.Board.{Note, FileView, BoardView, no_file, file_at}
 use Rattle.page_map.specs.declared.pages.Mode.{Mode}
 use Rattle.page_map.specs.declared.ranges.Look.{Look}
 use Rattle.page_map.specs.Window.{range_size}
@@ -32,6 +32,7 @@ use Rattle.guest_io.specs.declared.calls.Refusal.TheVariants as refusals
 use Rattle.guest_io.specs.declared.guest.Granted.{Granted}
 use Rattle.guest_io.specs.declared.guest.Holds.{Holds}
 use Rattle.guest_io.specs.Calls.{first_chunk, last_chunk}
+use Rattle.guest_io.specs.Notes.{SameNotes, KeepsNotes}
 use Rattle.guest_io.specs.Requests.{IsUndone, Sends}
 use Rattle.guest_io.specs.Going.{IsBusy, IsRefused, Reads, Writes}
 use Rattle.guest_io.specs.Truncates.{IsBarred, Truncates}
@@ -67,27 +68,46 @@ ours_before guest (x ∷ h) more (suc p) e others at by = let k = ours_before gu
 goes_same : (guest : ℕ) (h : List Entry) → GoesOn guest h h
 goes_same guest h = ([], sym (append-nil h), λ p e at by. at_within h p e at)
 
-pub others_same : (v w : BoardView) → ((f : ℕ) → history_at w f ≡ history_at v f) → OnlyOthers v w
-others_same v w same f = subst (GoesOn v.guest (history_at v f)) (sym (same f)) (goes_same v.guest (history_at v f))
+-- what is noted stays so
+keeps_same : (f g : FileView) → SameNotes f g → KeepsNotes f g
+keeps_same f g same k n at none = inl (same k n at)
+
+same_notes : (f g : FileView) → g.notes ≡ f.notes → SameNotes f g
+same_notes f g e k n at = ap (λ (ns : List Note). slice_get ns k) e ∙ at
+
+pub others_same : (v w : BoardView) → ((f : ℕ) → history_at w f ≡ history_at v f) → ((f : ℕ) → SameNotes (file_at v f) (file_at w f)) → OnlyOthers v w
+others_same v w same notes f = (subst (GoesOn v.guest (history_at v f)) (sym (same f)) (goes_same v.guest (history_at v f)), keeps_same (file_at v f) (file_at w f) (notes f))
+
+others_stay : (v w : BoardView) (f : ℕ) → file_at w f ≡ file_at v f → GoesOn v.guest (history_at v f) (history_at w f) × KeepsNotes (file_at v f) (file_at w f)
+others_stay v w f same = (
+  subst (GoesOn v.guest (history_at v f)) (sym (ap (λ (x : FileView). x.history) same)) (goes_same v.guest (history_at v f)),
+  keeps_same (file_at v f) (file_at w f) (same_notes (file_at v f) (file_at w f) (ap (λ (x : FileView). x.notes) same)),
+)
 
 others_undone : (v w : BoardView) (file : ℕ) → IsUndone v file w → OnlyOthers v w
 others_undone v w file u f = dite (ℕ_discrete f file)
-    (λ e. subst (λ (n : ℕ). GoesOn v.guest (history_at v n) (history_at w n)) (sym e) (subst (GoesOn v.guest (history_at v file)) (sym u.history) (u.more, refl, λ p e at by. ours_before v.guest (history_at v file) u.more p e u.others at by)))
-    (λ apart. subst (GoesOn v.guest (history_at v f)) (sym (ap (λ (x : FileView). x.history) (u.stay f apart))) (goes_same v.guest (history_at v f)))
+    (λ e. subst (λ (n : ℕ). GoesOn v.guest (history_at v n) (history_at w n) × KeepsNotes (file_at v n) (file_at w n)) (sym e)
+    (subst (GoesOn v.guest (history_at v file)) (sym u.history) (u.more, refl, λ p e at by. ours_before v.guest (history_at v file) u.more p e u.others at by), u.notes))
+    (λ apart. others_stay v w f (u.stay f apart))
 
--- one file is another one of the same history
-same_history : (files : List FileView) (file : ℕ) (x : FileView) → x.history ≡ (get_or files file no_file).history → (f : ℕ) → (get_or (slice_set files file x) f no_file).history ≡ (get_or files f no_file).history
-same_history [] file x same f = refl
-same_history (y ∷ files) zero x same zero = same
-same_history (y ∷ files) zero x same (suc f) = refl
-same_history (y ∷ files) (suc file) x same zero = refl
-same_history (y ∷ files) (suc file) x same (suc f) = same_history files file x same f
+-- one file is another one of the same history and notes
+abbrev same_seen : FileView → FileView → Type 0
+same_seen x y = (x.history ≡ y.history) × (x.notes ≡ y.notes)
+
+seen_set : (files : List FileView) (file : ℕ) (x : FileView) → same_seen x (get_or files file no_file) → (f : ℕ) → same_seen (get_or (slice_set files file x) f no_file) (get_or files f no_file)
+seen_set [] file x same f = (refl, refl)
+seen_set (y ∷ files) zero x same zero = same
+seen_set (y ∷ files) zero x same (suc f) = (refl, refl)
+seen_set (y ∷ files) (suc file) x same zero = (refl, refl)
+seen_set (y ∷ files) (suc file) x same (suc f) = seen_set files file x same f
 
 others_barred : (s t : Stand) (file count : ℕ) → IsBarred s file count t → OnlyOthers s.files t.files
-others_barred s t file count b = others_same s.files t.files (λ f. ap (λ (u : Stand). history_at u.files f) b.changed ∙ same_history s.files.files file _ refl f)
+others_barred s t file count b =
+    let seen : (f : ℕ) → same_seen (file_at t.files f) (file_at s.files f) = λ f. subst (λ (u : Stand). same_seen (file_at u.files f) (file_at s.files f)) (sym b.changed) (seen_set s.files.files file _ (refl, refl) f) in
+    others_same s.files t.files (λ f. (seen f).0) (λ f. same_notes (file_at s.files f) (file_at t.files f) (seen f).1)
 
 others_nothing : (s t : Stand) → t ≡ s → OnlyOthers s.files t.files
-others_nothing s t same = others_same s.files t.files (λ f. ap (λ (u : Stand). history_at u.files f) same)
+others_nothing s t same f = others_stay s.files t.files f (ap (λ (u : Stand). file_at u.files f) same)
 
 -- ---- where no range could be taken
 
@@ -219,7 +239,7 @@ truncates_comes s t h k n file size (Err (refusals.Leased count)) looks honest h
     size = size;
     asks = refl;
     some = b.some;
-    own = λ alone. b.alone alone.files;
+    own = b.alone;
     others = others_barred s t file count b;
     holds = holds;
   },
@@ -316,15 +336,15 @@ one_chunk chunk two = absurd (omega arith)
 that_chunk : (chunk c : ℕ) → (c ≡ first_chunk (range_size * chunk)) ⊎ (c ≡ last_chunk (range_size * chunk) range_size) → c ≡ chunk
 that_chunk chunk c e = ⊎_elim (λ (x : c ≡ first_chunk (range_size * chunk)). omega (arith, x)) (λ (x : c ≡ last_chunk (range_size * chunk) range_size). omega (arith, x)) e
 
-pub comes_held : (s t : Stand) (h k : Holds) (n file chunk : ℕ) (mode : Mode) (held : Held) (l : Line) → s.files.plain ≡ true → SameEntries s.files t.files → AsksHold s h file chunk mode (Ok held) t k → l ≡ lines.Held held.end held.through → Comes s h n (calls.Hold file chunk mode) (Ok l) t k
+pub comes_held : (s t : Stand) (h k : Holds) (n file chunk : ℕ) (mode : Mode) (held : Held) (l : Line) → SameEntries s.files t.files → AsksHold s h file chunk mode (Ok held) t k → l ≡ lines.Held held.end held.through → Comes s h n (calls.Hold file chunk mode) (Ok l) t k
 unfolding Tells
-comes_held s t h k n file chunk mode held l plain same (looks, granted) is =
+comes_held s t h k n file chunk mode held l same (looks, granted) is =
     subst (λ (x : Line). Comes s h n (calls.Hold file chunk mode) (Ok x) t k) (sym is)
-    (looks, record { file = file; chunk = chunk; mode = mode; asks = refl; plain = plain; granted = granted; others = others_same s.files t.files same.history })
+    (looks, record { file = file; chunk = chunk; mode = mode; asks = refl; granted = granted; others = others_same s.files t.files same.history same.notes })
 
 comes_unheld : (s t : Stand) (h k : Holds) (n file chunk : ℕ) (mode : Mode) (e : Refusal) → s.wire.honest ≡ true → HasHolds s h → range_count t.map ≡ range_count s.map → SameEntries s.files t.files → AsksHold s h file chunk mode (Err e) t k → Comes s h n (calls.Hold file chunk mode) (Err e) t k
 unfolding is_taking MeetsTwo NeedsChunk after_refusal
-comes_unheld s t h k n file chunk mode (refusals.Busy looked) honest has count same (not, busy) = (busy.1, stuck s t h k (calls.Hold file chunk mode) file (range_size * chunk) range_size looked has not.holds refl (record { two = one_chunk chunk; needs = λ c e. (refl, that_chunk chunk c e) }) count (others_same s.files t.files same.history) busy)
+comes_unheld s t h k n file chunk mode (refusals.Busy looked) honest has count same (not, busy) = (busy.1, stuck s t h k (calls.Hold file chunk mode) file (range_size * chunk) range_size looked has not.holds refl (record { two = one_chunk chunk; needs = λ c e. (refl, that_chunk chunk c e) }) count (others_same s.files t.files same.history same.notes) busy)
 comes_unheld s t h k n file chunk mode (refusals.Leased count) honest has c same never = absurd never
 comes_unheld s t h k n file chunk mode (refusals.NoHold hold) honest has c same never = absurd never
 comes_unheld s t h k n file chunk mode (refusals.Past end) honest has c same never = absurd never
@@ -335,13 +355,13 @@ comes_unheld s t h k n file chunk mode refusals.WireFault honest has c same m = 
 
 pub comes_released : (s t : Stand) (h k : Holds) (n hold : ℕ) → NoLooks t.map → SameEntries s.files t.files → (g : Granted) → granted_at h hold ≡ Some g → k ≡ record h { slots = slice_set h.slots hold None } → Comes s h n (calls.Release hold) (Ok lines.Released) t k
 unfolding Tells
-comes_released s t h k n hold looks same g had holds = (looks, record { hold = hold; granted = g; asks = refl; had = had; holds = holds; others = others_same s.files t.files same.history })
+comes_released s t h k n hold looks same g had holds = (looks, record { hold = hold; granted = g; asks = refl; had = had; holds = holds; others = others_same s.files t.files same.history same.notes })
 
 comes_unreleased : (s t : Stand) (h k : Holds) (n hold : ℕ) (e : Refusal) → NoLooks t.map → SameEntries s.files t.files → ReleasesHold s h hold (Err e) t k → Comes s h n (calls.Release hold) (Err e) t k
 unfolding hold_in
 comes_unreleased s t h k n hold (refusals.Busy looked) looks same never = absurd never
 comes_unreleased s t h k n hold (refusals.Leased count) looks same never = absurd never
-comes_unreleased s t h k n hold (refusals.NoHold number) looks same (is, none, stays, holds) = (looks, record { hold = hold; uses = refl; none = none; others = others_same s.files t.files same.history; holds = holds })
+comes_unreleased s t h k n hold (refusals.NoHold number) looks same (is, none, stays, holds) = (looks, record { hold = hold; uses = refl; none = none; others = others_same s.files t.files same.history same.notes; holds = holds })
 comes_unreleased s t h k n hold (refusals.Past end) looks same never = absurd never
 comes_unreleased s t h k n hold refusals.Memory looks same never = absurd never
 comes_unreleased s t h k n hold (refusals.Errno x) looks same never = absurd never

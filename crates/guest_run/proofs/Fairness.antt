@@ -23,17 +23,23 @@ use Rattle.guest_io.specs.declared.guest.Granted.{Granted}
 use Rattle.guest_io.specs.declared.guest.Holds.{Holds}
 use Rattle.guest_io.specs.Holds.{HasHolds, LeavesRest, max_holds, granted_at, leases_of}
 use Rattle.guest_run.specs.Runs.{Asked, Had, LogGoesOn}
-use Rattle.guest_run.specs.Working.{IsAlone, Asks, is_held_on, is_had_on, had_from, holds_on, IsBarredBy, IsHeldRange, IsHeldUp, IsFair, IsStuck, Tells}
+use Rattle.guest_run.specs.Working.{TakesAlone, LeasesAlone, Asks, is_held_on, is_had_on, had_from, holds_on, IsBarredBy, IsHeldRange, IsHeldUp, AreBarred, AreHeldUp, IsStuck, Tells}
 use Rattle.guest_run.proofs.Places.{none_is, some_is, within, at_end, front, take_front}
 use Rattle.guest_run.proofs.Following.{grant_for, wanted_of, IsFollowed}
 
 -- a guest stays alone
-pub alone_after : (s t : Stand) → LeavesRest s t → IsAlone s → IsAlone t
-alone_after s t k a = record { ranges = k.map.others ∙ a.ranges; count = λ one. a.count (sym k.map.count ∙ one); files = k.files.others ∙ a.files }
+pub takes_after : (s t : Stand) → LeavesRest s t → TakesAlone s → TakesAlone t
+takes_after s t k a = record { others = k.map.others ∙ a.others; count = λ one. a.count (sym k.map.count ∙ one) }
+
+pub leases_after : (s t : Stand) → LeavesRest s t → LeasesAlone s → LeasesAlone t
+leases_after s t k a = k.files.others ∙ a
 
 -- no lines are fair
-pub fair_none : (ranges : ℕ) (logs : ℕ → List LogEntry) (cs : List Call) → IsFair ranges logs cs []
-fair_none ranges logs cs = record { barred = λ n file size l at at'. absurd (none_is l at'); held_up = λ n c l letters at at' busy. absurd (none_is l at') }
+pub barred_none : (cs : List Call) → AreBarred cs []
+barred_none cs = λ n file size l at at'. absurd (none_is l at')
+
+pub held_up_none : (ranges : ℕ) (logs : ℕ → List LogEntry) (cs : List Call) → AreHeldUp ranges logs cs []
+held_up_none ranges logs cs = λ n c l letters at at' busy. absurd (none_is l at')
 
 -- ---- how many holds a guest has on a file
 
@@ -148,7 +154,10 @@ no_release_call file size hold e = cc
 same_file : (file size f z : ℕ) → calls.Truncate file size ≡ calls.Truncate f z → f ≡ file
 same_file file size f z e = cc
 
-module _ (s t : Stand) (h k : Holds) (cs : List Call) (ls : List Numbered) (c : Call) (alone : IsAlone s) (rest : LeavesRest s t) (has : HasHolds s h) (f : IsFollowed cs ls h) (made : slice_get cs (length ls) ≡ Some c) where
+all_but_last : (ls : List Numbered) (l : Numbered) → take (length ls) (ls ++ l ∷ []) ≡ ls
+all_but_last ls l = take_front ls (l ∷ []) (length ls) (omega arith) ∙ take_all ls
+
+module _ (s t : Stand) (h k : Holds) (cs : List Call) (ls : List Numbered) (c : Call) (alone : LeasesAlone s) (has : HasHolds s h) (f : IsFollowed cs ls h) (made : slice_get cs (length ls) ≡ Some c) where
   -- a truncation is refused for the leases that there are
   barred_by : (held file size : ℕ) (l : Line) → leases_on s.files file ≡ held → c ≡ calls.Truncate file size → Tells s h (length ls) c l t k → IsBarredBy held l
   unfolding Tells IsBarredBy
@@ -162,6 +171,20 @@ module _ (s t : Stand) (h k : Holds) (cs : List Call) (ls : List Numbered) (c : 
   barred_by held file size lines.NoHold count is x = none_is x.hold (sym (truncation c file size is).2 ∙ x.uses)
   barred_by held file size (lines.Past end) count is x = none_is x.hold (sym (truncation c file size is).2 ∙ x.uses)
 
+  barred_more : (l : Line) → AreBarred cs ls → Tells s h (length ls) c l t k → AreBarred cs (ls ++ record { call = length ls; line = l } ∷ [])
+  barred_more l barred x n file size m at at' =
+      let its : Numbered = record { call = length ls; line = l } in
+      let ms = ls ++ its ∷ [] in
+      ⊎_elim
+      (λ (old : slice_get ls n ≡ Some m).
+      let lt = within ls n m old in
+      subst (λ (y : ℕ). IsBarredBy y m.line) (had_same cs ls ms file n 0 max_holds (sym (take_front ls (its ∷ []) n (omega (arith, lt))))) (barred n file size m at old))
+      (λ (new : (n ≡ length ls) × (its ≡ m)).
+      let is : c ≡ calls.Truncate file size = some_is c (calls.Truncate file size) (sym made ∙ (ap (λ (y : ℕ). slice_get cs y) (sym new.0) ∙ at)) in
+      subst (λ (y : ℕ × Numbered). IsBarredBy (holds_on cs ms file y.0) y.1.line) (λ i. (sym new.0 i, new.1 i)) (barred_by (holds_on cs ms file (length ls)) file size l (holds_are s h cs ls ms file has f (all_but_last ls its)) is x))
+      (at_end ls its m n at')
+
+module _ (s t : Stand) (h k : Holds) (cs : List Call) (ls : List Numbered) (c : Call) (alone : TakesAlone s) (rest : LeavesRest s t) (has : HasHolds s h) (f : IsFollowed cs ls h) (made : slice_get cs (length ls) ≡ Some c) where
   held_up_by : (ms : List Numbered) (l : Line) (letters : List ℕ) → take (length ls) ms ≡ ls → l ≡ lines.Busy letters → Tells s h (length ls) c l t k → IsHeldUp (range_count s.map) (log_at t.map) cs ms (length ls) c letters
   unfolding Tells
   held_up_by ms l letters e is x =
@@ -169,33 +192,28 @@ module _ (s t : Stand) (h k : Holds) (cs : List Call) (ls : List Numbered) (c : 
       let full = stuck.full alone in
       record { pinned = full.pinned; missing = full.missing; two = full.two; each = λ range lt apart. let y = full.each range lt apart in held_range s t h cs ls ms y.0 range y.1 rest has f e y.2 y.3; file = full.file; chunk = full.chunk; needs = full.needs; unheld = λ hold held grant by had. not_had h cs ls full.file full.chunk hold held grant f full.unheld by (subst (λ (ks : List Numbered). Had cs ks (length ls) hold grant) e had) }
 
-  fair_more : (l : Line) → IsFair (range_count s.map) (log_at s.map) cs ls → Tells s h (length ls) c l t k → IsFair (range_count s.map) (log_at t.map) cs (ls ++ record { call = length ls; line = l } ∷ [])
-  fair_more l fair x =
+  held_up_more : (l : Line) → AreHeldUp (range_count s.map) (log_at s.map) cs ls → Tells s h (length ls) c l t k → AreHeldUp (range_count s.map) (log_at t.map) cs (ls ++ record { call = length ls; line = l } ∷ [])
+  held_up_more l held_up x n d m letters at at' busy =
       let its : Numbered = record { call = length ls; line = l } in
       let ms = ls ++ its ∷ [] in
-      let all : take (length ls) ms ≡ ls = take_front ls (its ∷ []) (length ls) (omega arith) ∙ take_all ls in
-      record {
-        barred = λ n file size m at at'. ⊎_elim
-            (λ (old : slice_get ls n ≡ Some m).
-            let lt = within ls n m old in
-            subst (λ (y : ℕ). IsBarredBy y m.line) (had_same cs ls ms file n 0 max_holds (sym (take_front ls (its ∷ []) n (omega (arith, lt))))) (fair.barred n file size m at old))
-            (λ (new : (n ≡ length ls) × (its ≡ m)).
-            let is : c ≡ calls.Truncate file size = some_is c (calls.Truncate file size) (sym made ∙ (ap (λ (y : ℕ). slice_get cs y) (sym new.0) ∙ at)) in
-            subst (λ (y : ℕ × Numbered). IsBarredBy (holds_on cs ms file y.0) y.1.line) (λ i. (sym new.0 i, new.1 i)) (barred_by (holds_on cs ms file (length ls)) file size l (holds_are s h cs ls ms file has f all) is x))
-            (at_end ls its m n at');
-        held_up = λ n d m letters at at' busy. ⊎_elim
-            (λ (old : slice_get ls n ≡ Some m).
-            let lt = within ls n m old in
-            held_up_on (range_count s.map) (log_at s.map) (log_at t.map) cs ls ms n d letters rest.map.logs (take_front ls (its ∷ []) n (omega (arith, lt))) (fair.held_up n d m letters at old busy))
-            (λ (new : (n ≡ length ls) × (its ≡ m)).
-            let is : c ≡ d = some_is c d (sym made ∙ (ap (λ (y : ℕ). slice_get cs y) (sym new.0) ∙ at)) in
-            subst (λ (y : ℕ × Call). IsHeldUp (range_count s.map) (log_at t.map) cs ms y.0 y.1 letters) (λ i. (sym new.0 i, is i)) (held_up_by ms l letters all (ap (λ (y : Numbered). y.line) new.1 ∙ busy) x))
-            (at_end ls its m n at');
-      }
+      ⊎_elim
+      (λ (old : slice_get ls n ≡ Some m).
+      let lt = within ls n m old in
+      held_up_on (range_count s.map) (log_at s.map) (log_at t.map) cs ls ms n d letters rest.map.logs (take_front ls (its ∷ []) n (omega (arith, lt))) (held_up n d m letters at old busy))
+      (λ (new : (n ≡ length ls) × (its ≡ m)).
+      let is : c ≡ d = some_is c d (sym made ∙ (ap (λ (y : ℕ). slice_get cs y) (sym new.0) ∙ at)) in
+      subst (λ (y : ℕ × Call). IsHeldUp (range_count s.map) (log_at t.map) cs ms y.0 y.1 letters) (λ i. (sym new.0 i, is i)) (held_up_by ms l letters (all_but_last ls its) (ap (λ (y : Numbered). y.line) new.1 ∙ busy) x))
+      (at_end ls its m n at')
 
 -- the lines stay fair by that of the next call
-pub step_fair : (ranges : ℕ) (s t : Stand) (h k : Holds) (cs : List Call) (ls : List Numbered) (n : ℕ) (c : Call) (l : Line) → IsAlone s → range_count s.map ≡ ranges → LeavesRest s t → HasHolds s h → IsFollowed cs ls h → n ≡ length ls → slice_get cs n ≡ Some c
-    → Tells s h n c l t k → IsFair ranges (log_at s.map) cs ls → IsFair ranges (log_at t.map) cs (ls ++ record { call = n; line = l } ∷ [])
-step_fair ranges s t h k cs ls n c l alone count rest has f number =
-    subst (λ (z : ℕ × ℕ). slice_get cs z.0 ≡ Some c → Tells s h z.0 c l t k → IsFair z.1 (log_at s.map) cs ls → IsFair z.1 (log_at t.map) cs (ls ++ record { call = z.0; line = l } ∷ [])) (λ i. (sym number i, count i))
-    (λ made x fair. fair_more s t h k cs ls c alone rest has f made l fair x)
+pub step_barred : (s t : Stand) (h k : Holds) (cs : List Call) (ls : List Numbered) (n : ℕ) (c : Call) (l : Line) → LeasesAlone s → HasHolds s h → IsFollowed cs ls h → n ≡ length ls → slice_get cs n ≡ Some c
+    → Tells s h n c l t k → AreBarred cs ls → AreBarred cs (ls ++ record { call = n; line = l } ∷ [])
+step_barred s t h k cs ls n c l alone has f number =
+    subst (λ (m : ℕ). slice_get cs m ≡ Some c → Tells s h m c l t k → AreBarred cs ls → AreBarred cs (ls ++ record { call = m; line = l } ∷ [])) (sym number)
+    (λ made x barred. barred_more s t h k cs ls c alone has f made l barred x)
+
+pub step_held_up : (ranges : ℕ) (s t : Stand) (h k : Holds) (cs : List Call) (ls : List Numbered) (n : ℕ) (c : Call) (l : Line) → TakesAlone s → range_count s.map ≡ ranges → LeavesRest s t → HasHolds s h → IsFollowed cs ls h → n ≡ length ls → slice_get cs n ≡ Some c
+    → Tells s h n c l t k → AreHeldUp ranges (log_at s.map) cs ls → AreHeldUp ranges (log_at t.map) cs (ls ++ record { call = n; line = l } ∷ [])
+step_held_up ranges s t h k cs ls n c l alone count rest has f number =
+    subst (λ (z : ℕ × ℕ). slice_get cs z.0 ≡ Some c → Tells s h z.0 c l t k → AreHeldUp z.1 (log_at s.map) cs ls → AreHeldUp z.1 (log_at t.map) cs (ls ++ record { call = z.0; line = l } ∷ [])) (λ i. (sym number i, count i))
+    (λ made x held_up. held_up_more s t h k cs ls c alone rest has f made l held_up x)

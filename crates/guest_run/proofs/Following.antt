@@ -85,55 +85,55 @@ granted_for_writing cs ls h hold g f w at = ap (λ (x : Wanted). x.mode) (some_i
 for_writing : (cs : List Call) (ls : List Numbered) (h : Holds) (hold : ℕ) → IsFollowed cs ls h → IsForWriting cs hold → IfSome (granted_at h hold) (λ g. g.mode ≡ modes.W)
 for_writing cs ls h hold f w = some_with (granted_at h hold) (λ g. g.mode ≡ modes.W) (λ g at. granted_for_writing cs ls h hold g f w at)
 
-can_make_of : (files ranges : ℕ) (plain : Bool) (s : Stand) (h : Holds) (cs : List Call) (ls : List Numbered) (n : ℕ) (c : Call) → n ≡ length ls → s.files.plain ≡ plain → range_count s.map ≡ ranges → IsFollowed cs ls h
-    → IsCall files ranges plain cs n c → CanMake s h files c
+can_make_of : (files ranges : ℕ) (s : Stand) (h : Holds) (cs : List Call) (ls : List Numbered) (n : ℕ) (c : Call) → n ≡ length ls → range_count s.map ≡ ranges → IsFollowed cs ls h
+    → IsCall files ranges cs n c → CanMake s h files c
 unfolding IsCall CanMake
-can_make_of files ranges plain s h cs ls n (calls.Read file off len) number board count f is = is
-can_make_of files ranges plain s h cs ls n (calls.Write file off bytes) number board count f is = is
-can_make_of files ranges plain s h cs ls n (calls.Fill file off len byte) number board count f is = is
-can_make_of files ranges plain s h cs ls n (calls.Size file) number board count f is = is
-can_make_of files ranges plain s h cs ls n (calls.Truncate file size) number board count f is = is
-can_make_of files ranges plain s h cs ls n (calls.Hold file chunk mode) number board count f is =
+can_make_of files ranges s h cs ls n (calls.Read file off len) number count f is = is
+can_make_of files ranges s h cs ls n (calls.Write file off bytes) number count f is = is
+can_make_of files ranges s h cs ls n (calls.Fill file off len byte) number count f is = is
+can_make_of files ranges s h cs ls n (calls.Size file) number count f is = is
+can_make_of files ranges s h cs ls n (calls.Truncate file size) number count f is = is
+can_make_of files ranges s h cs ls n (calls.Hold file chunk mode) number count f is =
     let some = is.2 in
-    let few = is.4 in
+    let few = is.3 in
     let asked = f.asked in
     let same : length (hold_places 0 (take n cs)) ≡ length (hold_places 0 (take (length ls) cs)) = ap (λ (x : ℕ). length (hold_places 0 (take x cs))) number in
-    (is.0, is.1, omega (arith, some, count), board ∙ is.3, omega (arith, few, asked, same))
-can_make_of files ranges plain s h cs ls n (calls.Load hold off len) number board count f is = (is.1, is.2)
-can_make_of files ranges plain s h cs ls n (calls.Store hold off bytes) number board count f is = (for_writing cs ls h hold f is.1, is.2, is.3)
-can_make_of files ranges plain s h cs ls n (calls.Release hold) number board count f is = tt
+    (is.0, is.1, omega (arith, some, count), omega (arith, few, asked, same))
+can_make_of files ranges s h cs ls n (calls.Load hold off len) number count f is = (is.1, is.2)
+can_make_of files ranges s h cs ls n (calls.Store hold off bytes) number count f is = (for_writing cs ls h hold f is.1, is.2, is.3)
+can_make_of files ranges s h cs ls n (calls.Release hold) number count f is = tt
 
 -- a guest whose holds follow its lines can make its next call
-pub can_make : (files ranges : ℕ) (plain : Bool) (s : Stand) (h : Holds) (cs : List Call) (ls : List Numbered) (n : ℕ) (c : Call) → AreCalls files ranges plain cs → IsFollowed cs ls h → slice_get cs n ≡ Some c → n ≡ length ls
-    → s.files.plain ≡ plain → range_count s.map ≡ ranges → CanMake s h files c
-can_make files ranges plain s h cs ls n c are f made number board count = can_make_of files ranges plain s h cs ls n c number board count f (are n c made)
+pub can_make : (files ranges : ℕ) (s : Stand) (h : Holds) (cs : List Call) (ls : List Numbered) (n : ℕ) (c : Call) → AreCalls files ranges cs → IsFollowed cs ls h → slice_get cs n ≡ Some c → n ≡ length ls
+    → range_count s.map ≡ ranges → CanMake s h files c
+can_make files ranges s h cs ls n c are f made number count = can_make_of files ranges s h cs ls n c number count f (are n c made)
 
 -- ---- what isn't given up
 
-not_release : (files ranges : ℕ) (plain : Bool) (cs : List Call) (n hold : ℕ) (c : Call) → (IsAskedBefore cs n hold → ⊥) → IsCall files ranges plain cs n c → is_release hold c ≡ false
+not_release : (files ranges : ℕ) (cs : List Call) (n hold : ℕ) (c : Call) → (IsAskedBefore cs n hold → ⊥) → IsCall files ranges cs n c → is_release hold c ≡ false
 unfolding IsCall is_release
-not_release files ranges plain cs n hold (calls.Read file off len) not is = refl
-not_release files ranges plain cs n hold (calls.Write file off bytes) not is = refl
-not_release files ranges plain cs n hold (calls.Fill file off len byte) not is = refl
-not_release files ranges plain cs n hold (calls.Size file) not is = refl
-not_release files ranges plain cs n hold (calls.Truncate file size) not is = refl
-not_release files ranges plain cs n hold (calls.Hold file chunk mode) not is = refl
-not_release files ranges plain cs n hold (calls.Load k off len) not is = refl
-not_release files ranges plain cs n hold (calls.Store k off bytes) not is = refl
-not_release files ranges plain cs n hold (calls.Release k) not is = ne_eqb k hold (λ e. not (subst (IsAskedBefore cs n) e is))
+not_release files ranges cs n hold (calls.Read file off len) not is = refl
+not_release files ranges cs n hold (calls.Write file off bytes) not is = refl
+not_release files ranges cs n hold (calls.Fill file off len byte) not is = refl
+not_release files ranges cs n hold (calls.Size file) not is = refl
+not_release files ranges cs n hold (calls.Truncate file size) not is = refl
+not_release files ranges cs n hold (calls.Hold file chunk mode) not is = refl
+not_release files ranges cs n hold (calls.Load k off len) not is = refl
+not_release files ranges cs n hold (calls.Store k off bytes) not is = refl
+not_release files ranges cs n hold (calls.Release k) not is = ne_eqb k hold (λ e. not (subst (IsAskedBefore cs n) e is))
 
 first_no : (a b : Bool) → a ≡ false → (a && b) ≡ false
 first_no a b e = ap (λ (x : Bool). x && b) e
 
 -- a hold isn't given up before it is asked for
-not_given_up : (files ranges : ℕ) (plain : Bool) (cs : List Call) (ls : List Numbered) (n hold : ℕ) → AreCalls files ranges plain cs → place_of_hold cs hold ≡ Some n → is_given_up cs ls hold n ≡ false
-not_given_up files ranges plain cs ls n hold are place = list_any_none (releases hold) (take n (zip cs ls)) (λ k d lt.
+not_given_up : (files ranges : ℕ) (cs : List Call) (ls : List Numbered) (n hold : ℕ) → AreCalls files ranges cs → place_of_hold cs hold ≡ Some n → is_given_up cs ls hold n ≡ false
+not_given_up files ranges cs ls n hold are place = list_any_none (releases hold) (take n (zip cs ls)) (λ k d lt.
     let z = get_or (take n (zip cs ls)) k d in
     let at = in_take n (zip cs ls) k z (slice_get-get_or (take n (zip cs ls)) k d lt) in
     let here = of_zip cs ls k z at.1 in
     let before = at.0 in
     let not : IsAskedBefore cs k hold → ⊥ = λ a. (let e : n ≡ a.at = some_is n a.at (sym place ∙ a.place) in let b = a.before in omega (arith, e, b, before)) in
-    first_no (is_release hold z.0) (is_released z.1.line) (not_release files ranges plain cs k hold z.0 not (are k z.0 here.0)))
+    first_no (is_release hold z.0) (is_released z.1.line) (not_release files ranges cs k hold z.0 not (are k z.0 here.0)))
 
 -- ---- one more line
 
@@ -292,13 +292,13 @@ pub hold_wants : (c : Call) (file chunk : ℕ) (mode : Mode) → c ≡ calls.Hol
 unfolding held_of
 hold_wants c file chunk mode e = ap held_of e
 
-hold_room : (files ranges : ℕ) (plain : Bool) (cs : List Call) (n file chunk : ℕ) (mode : Mode) (c : Call) → c ≡ calls.Hold file chunk mode → IsCall files ranges plain cs n c → length (hold_places 0 (take n cs)) < max_holds
+hold_room : (files ranges : ℕ) (cs : List Call) (n file chunk : ℕ) (mode : Mode) (c : Call) → c ≡ calls.Hold file chunk mode → IsCall files ranges cs n c → length (hold_places 0 (take n cs)) < max_holds
 unfolding IsCall
-hold_room files ranges plain cs n file chunk mode c e is = (subst (IsCall files ranges plain cs n) e is).4
+hold_room files ranges cs n file chunk mode c e is = (subst (IsCall files ranges cs n) e is).3
 
 -- ---- one more call
 
-module _ (files ranges : ℕ) (plain : Bool) (s t : Stand) (h k : Holds) (cs : List Call) (ls : List Numbered) (c : Call) (are : AreCalls files ranges plain cs) (has : HasHolds s h) (f : IsFollowed cs ls h) (made : slice_get cs (length ls) ≡ Some c) where
+module _ (files ranges : ℕ) (s t : Stand) (h k : Holds) (cs : List Call) (ls : List Numbered) (c : Call) (are : AreCalls files ranges cs) (has : HasHolds s h) (f : IsFollowed cs ls h) (made : slice_get cs (length ls) ≡ Some c) where
   abbrev its_line : Line → Numbered
   its_line l = record { call = length ls; line = l }
 
@@ -313,7 +313,7 @@ module _ (files ranges : ℕ) (plain : Bool) (s t : Stand) (h k : Holds) (cs : L
       let a = x.granted in
       let g = a.granted in
       let n = length ls in
-      let few = hold_room files ranges plain cs n x.file x.chunk x.mode c x.asks (are n c made) in
+      let few = hold_room files ranges cs n x.file x.chunk x.mode c x.asks (are n c made) in
       let asked = f.asked in
       let slots = has.slots in
       let is : is_hold c ≡ true = hold_is c x.file x.chunk x.mode x.asks in
@@ -322,7 +322,7 @@ module _ (files ranges : ℕ) (plain : Bool) (s t : Stand) (h k : Holds) (cs : L
       let by : held_by cs h.asked ≡ Some (wanted_of g) = ap (λ (o : Option ℕ). o >>= λ at. slice_get cs at >>= held_of) place ∙ (ap (λ (o : Option Call). o >>= held_of) made ∙ wants) in
       let far : (hold : ℕ) → place_of_hold cs hold ≡ Some n → hold ≡ h.asked = λ hold at. (let y = hold_at 0 hold n cs at in let z = y.place in let w : y.at ≡ n = omega (arith, z) in y.number ∙ (ap (λ (m : ℕ). length (hold_places 0 (take m cs))) w ∙ sym asked)) in
       subst (IsFollowed cs (ls ++ its_line (lines.Held held.end held.through) ∷ [])) (sym a.holds)
-      (granted_more cs ls h c (its_line (lines.Held held.end held.through)) made f g (omega (arith, few, asked, slots)) place by (not_given_up files ranges plain cs ls n h.asked are place) far (hold_no_release c x.file x.chunk x.mode x.asks)
+      (granted_more cs ls h c (its_line (lines.Held held.end held.through)) made f g (omega (arith, few, asked, slots)) place by (not_given_up files ranges cs ls n h.asked are place) far (hold_no_release c x.file x.chunk x.mode x.asks)
       (grants ∙ (λ i. Some (record { end = sym a.end i; through = sym a.through i }))) is)
 
   released_now : grant_of lines.Released ≡ None → is_released lines.Released ≡ true → IsReleased s h c t k → IsFollowed cs (ls ++ its_line lines.Released ∷ []) k
@@ -340,7 +340,7 @@ module _ (files ranges : ℕ) (plain : Bool) (s t : Stand) (h k : Holds) (cs : L
   told_followed (lines.Past end) x = as_before (lines.Past end) refl refl (uses_no_hold c x.hold x.uses) x.holds
 
 -- the holds behind the next call follow its line too
-pub step_followed : (files ranges : ℕ) (plain : Bool) (s t : Stand) (h k : Holds) (cs : List Call) (ls : List Numbered) (n : ℕ) (c : Call) (l : Line) → AreCalls files ranges plain cs → HasHolds s h → IsFollowed cs ls h → n ≡ length ls → slice_get cs n ≡ Some c
+pub step_followed : (files ranges : ℕ) (s t : Stand) (h k : Holds) (cs : List Call) (ls : List Numbered) (n : ℕ) (c : Call) (l : Line) → AreCalls files ranges cs → HasHolds s h → IsFollowed cs ls h → n ≡ length ls → slice_get cs n ≡ Some c
     → Tells s h n c l t k → IsFollowed cs (ls ++ record { call = n; line = l } ∷ []) k
-step_followed files ranges plain s t h k cs ls n c l are has f number = subst (λ (m : ℕ). slice_get cs m ≡ Some c → Tells s h m c l t k → IsFollowed cs (ls ++ record { call = m; line = l } ∷ []) k) (sym number)
-    (λ made x. told_followed files ranges plain s t h k cs ls c are has f made l x)
+step_followed files ranges s t h k cs ls n c l are has f number = subst (λ (m : ℕ). slice_get cs m ≡ Some c → Tells s h m c l t k → IsFollowed cs (ls ++ record { call = m; line = l } ∷ []) k) (sym number)
+    (λ made x. told_followed files ranges s t h k cs ls c are has f made l x)

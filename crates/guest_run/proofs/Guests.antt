@@ -11,6 +11,8 @@ use Rattle.plain_file.specs.declared.operations.Through.{Through}
 use Rattle.plain_file.specs.declared.operations.Way.{Way}
 use Rattle.plain_file.specs.File.{answer}
 use Rattle.plain_file.specs.History.{bytes, size}
+use Rattle.plain_file.specs.Board.{Note}
+use Rattle.plain_file.specs.Sound.{IsFresh}
 use Rattle.page_map.specs.declared.ranges.LogEntry.{LogEntry}
 use Rattle.page_map.specs.Logs.{is_writable}
 use Rattle.range_tree.specs.Logs.{is_live}
@@ -21,22 +23,22 @@ use Rattle.transcript_text.specs.declared.transcripts.Line.{Line}
 use Rattle.transcript_text.specs.declared.transcripts.Line.TheVariants as lines
 use Rattle.transcript_text.specs.declared.transcripts.Numbered.{Numbered}
 use Rattle.dax_audit.specs.Guests.{place_of}
-use Rattle.guest_run.specs.Runs.{Asked, on_file, asked, the_entry, Came, IsPlaced, IsSeenBefore, IsSeenUntil, IsDone, IsGranted, IsGivenBack, IsBlocked, IsLeased, IsWithoutHold, IsPast, IsNotDone, IsTold, IsOf, IsRunFrom, GoesOn, LogGoesOn}
+use Rattle.guest_run.specs.Runs.{Asked, on_file, asked, the_entry, Came, IsPlaced, IsSeenBefore, IsSeenUntil, WasSize, IsNotedSize, IsDone, IsGranted, IsGivenBack, IsBlocked, IsLeased, IsWithoutHold, IsPast, IsNotDone, IsTold, IsOf, IsRunFrom, GoesOn, NotesGoOn, LogGoesOn}
 use Rattle.guest_run.proofs.Places.{none_is, some_is, below_or_from, at_end, last_at, within, front, in_front}
 use Rattle.guest_run.proofs.Granting.{had_front, none_front}
 use Rattle.guest_run.proofs.Ways.{bytes_front, size_front, live_on, placed_front, seen_front, came_on}
 
 -- nothing was told yet
-pub begun : (guest ranges : ℕ) (first : ℕ → First) (h : ℕ → List Entry) (logs : ℕ → List LogEntry) (cs : List Call) → IsRunFrom guest ranges first (λ f. length (h f)) h logs cs []
-begun guest ranges first h logs cs = record {
+pub begun : (guest ranges : ℕ) (first : ℕ → First) (h : ℕ → List Entry) (logs : ℕ → List LogEntry) (notes : ℕ → List Note) (cs : List Call) → IsRunFrom guest ranges first (λ f. length (h f)) h logs notes cs []
+begun guest ranges first h logs notes cs = record {
   told = λ n c l at at'. absurd (none_is l at');
   only = λ f p e le at is. let l = within (h f) p e at in absurd (omega arith);
   rising = λ f n m p q lt a b. absurd (none_is a.line a.told);
 }
 
 -- a run from an earlier place on is one from a later place on
-pub run_since : (guest ranges : ℕ) (first : ℕ → First) (from later : ℕ → ℕ) (h : ℕ → List Entry) (logs : ℕ → List LogEntry) (cs : List Call) (ls : List Numbered) → ((f : ℕ) → from f ≤ later f) → IsRunFrom guest ranges first from h logs cs ls → IsRunFrom guest ranges first later h logs cs ls
-run_since guest ranges first from later h logs cs ls up r = record { told = r.told; only = λ f p e le at is. r.only f p e (let u = up f in omega arith) at is; rising = r.rising }
+pub run_since : (guest ranges : ℕ) (first : ℕ → First) (from later : ℕ → ℕ) (h : ℕ → List Entry) (logs : ℕ → List LogEntry) (notes : ℕ → List Note) (cs : List Call) (ls : List Numbered) → ((f : ℕ) → from f ≤ later f) → IsRunFrom guest ranges first from h logs notes cs ls → IsRunFrom guest ranges first later h logs notes cs ls
+run_since guest ranges first from later h logs notes cs ls up r = record { told = r.told; only = λ f p e le at is. r.only f p e (let u = up f in omega arith) at is; rising = r.rising }
 
 -- the histories are longer
 abbrev pub AreLonger : (ℕ → List Entry) → (ℕ → List Entry) → Type 0
@@ -46,13 +48,22 @@ AreLonger h h' = (f : ℕ) → (rest : List Entry) × (h' f ≡ h f ++ rest)
 abbrev pub ArePlacedBehind : (ℕ → List Entry) → List Call → List Numbered → List Numbered → Type 0
 ArePlacedBehind h cs ls more = (f m p : ℕ) → length ls ≤ m → IsPlaced cs (ls ++ more) f m p → length (h f) ≤ p
 
+-- no line from the end of the earlier ones on has a place in a file of which a size is noted
+abbrev pub AreElsewhere : (ℕ → List Note) → List Call → List Numbered → List Numbered → Type 0
+AreElsewhere notes cs ls more = (f m p k : ℕ) (note : Note) → slice_get (notes f) k ≡ Some note → length ls ≤ m → IsPlaced cs (ls ++ more) f m p → ⊥
+
+-- where no size is noted, a size was the file's
+pub was_only : (first : First) (h : List Entry) (cs : List Call) (ls : List Numbered) (f n z : ℕ) → WasSize first h cs ls f n z ⊎ IsNotedSize [] cs ls f n z → WasSize first h cs ls f n z
+was_only first h cs ls f n z = ⊎_elim (λ (w : WasSize first h cs ls f n z). w) (λ (x : IsNotedSize [] cs ls f n z). absurd (none_is x.note x.noted))
+
 -- ---- what a line tells, in longer histories and logs, and after more lines
 
 -- what a line tells that has no place
-abbrev pub IsElse : ℕ → (ℕ → First) → (ℕ → List Entry) → (ℕ → List LogEntry) → List Call → List Numbered → ℕ → Call → Numbered → Type 0
-IsElse ranges first h logs cs ls n c l = IsGranted first h logs cs ls n c l ⊎ (IsGivenBack cs ls n c l ⊎ IsNotDone ranges cs ls n c l)
+abbrev pub IsElse : ℕ → (ℕ → First) → (ℕ → List Entry) → (ℕ → List LogEntry) → (ℕ → List Note) → List Call → List Numbered → ℕ → Call → Numbered → Type 0
+IsElse ranges first h logs notes cs ls n c l = IsGranted first h logs notes cs ls n c l ⊎ (IsGivenBack cs ls n c l ⊎ IsNotDone ranges cs ls n c l)
 
-module _ (ranges : ℕ) (first : ℕ → First) (h h' : ℕ → List Entry) (logs logs' : ℕ → List LogEntry) (cs : List Call) (ls more : List Numbered) (n : ℕ) (c : Call) (l : Numbered) (low : n ≤ length ls) (on : AreLonger h h') (on' : (f : ℕ) → LogGoesOn (logs f) (logs' f)) where
+module _ (ranges : ℕ) (first : ℕ → First) (h h' : ℕ → List Entry) (logs logs' : ℕ → List LogEntry) (notes notes' : ℕ → List Note) (cs : List Call) (ls more : List Numbered) (n : ℕ) (c : Call) (l : Numbered) (low : n ≤ length ls)
+    (on : AreLonger h h') (on' : (f : ℕ) → LogGoesOn (logs f) (logs' f)) (keep : (f : ℕ) → NotesGoOn (first f) (h' f) (notes f) (notes' f)) where
   done_on : (guest : ℕ) → IsDone guest ranges first h logs cs ls n c l → IsDone guest ranges first h' logs' cs (ls ++ more) n c l
   done_on guest d =
       let f = d.to.file in
@@ -72,15 +83,51 @@ module _ (ranges : ℕ) (first : ℕ → First) (h h' : ℕ → List Entry) (log
         came = came_on ranges (first f) (h f) (h' f) (logs f) (logs' f) cs ls more n (hold_in c) d.place d.to d.way (on f) (on' f) low upto d.came;
       }
 
-  granted_on : ArePlacedBehind h cs ls more → IsGranted first h logs cs ls n c l → IsGranted first h' logs' cs (ls ++ more) n c l
-  granted_on behind g =
-      let f = g.held.file in
+  -- a size that was the file's was so in the longer history
+  was_on : (f z : ℕ) → ArePlacedBehind h cs ls more → WasSize (first f) (h f) cs ls f n z → WasSize (first f) (h' f) cs (ls ++ more) f n z
+  was_on f z behind w =
       let rest = (on f).0 in
       let is = (on f).1 in
-      let k = g.through in
-      let known = g.known in
+      let known = w.known in
       let longer : length (h f) ≤ length (h' f) = (let e = ap (λ (xs : List Entry). length xs) is in omega (arith, e, length-append (h f) rest)) in
-      let same : size (first f) (h f) g.seen ≡ size (first f) (h' f) g.seen = sym (ap (λ (xs : List Entry). size (first f) xs g.seen) is ∙ size_front (first f) (h f) rest g.seen known) in
+      record {
+        seen = w.seen;
+        since = seen_front cs ls more f n w.seen low w.since;
+        until = λ m p lt a. ⊎_elim
+            (λ (old : m < length ls). w.until m p lt (placed_front cs ls more f m p old a))
+            (λ (new : length ls ≤ m). let b = behind f m p new a in omega (arith, b, known))
+            (below_or_from m (length ls));
+        known = omega (arith, known, longer);
+        is = w.is ∙ sym (ap (λ (xs : List Entry). size (first f) xs w.seen) is ∙ size_front (first f) (h f) rest w.seen known);
+      }
+
+  -- one that is noted is so still, or was the file's meanwhile
+  noted_on : (f z : ℕ) → AreElsewhere notes cs ls more → IsNotedSize (notes f) cs ls f n z → WasSize (first f) (h' f) cs (ls ++ more) f n z ⊎ IsNotedSize (notes' f) cs (ls ++ more) f n z
+  noted_on f z apart x =
+      let lower = x.note.lower in
+      let since : IsSeenBefore cs (ls ++ more) f n lower = seen_front cs ls more f n lower low x.since in
+      let last : (m p : ℕ) → n < m → IsPlaced cs (ls ++ more) f m p → ⊥ = λ m p lt a. ⊎_elim
+      (λ (old : m < length ls). x.last m p lt (placed_front cs ls more f m p old a))
+      (λ (new : length ls ≤ m). apart f m p x.at x.note x.noted new a)
+      (below_or_from m (length ls)) in
+      ⊎_elim
+      (λ (stays : slice_get (notes' f) x.at ≡ Some x.note). inr (record { at = x.at; note = x.note; noted = stays; size = x.size; upper = x.upper; since = since; last = last }))
+      (λ (fresh : IsFresh (first f) (h' f) lower (length (h' f)) x.note.size). inl (record {
+        seen = fresh.0;
+        since = λ m p lt a. let below = since m p lt a in let up = fresh.1 in omega (arith, below, up);
+        until = λ m p lt a. absurd (last m p lt a);
+        known = fresh.2;
+        is = sym x.size ∙ fresh.4;
+      }))
+      (keep f x.at x.note x.noted x.upper)
+
+  sized_on : (f z : ℕ) → ArePlacedBehind h cs ls more → AreElsewhere notes cs ls more → WasSize (first f) (h f) cs ls f n z ⊎ IsNotedSize (notes f) cs ls f n z → WasSize (first f) (h' f) cs (ls ++ more) f n z ⊎ IsNotedSize (notes' f) cs (ls ++ more) f n z
+  sized_on f z behind apart = ⊎_elim (λ (w : WasSize (first f) (h f) cs ls f n z). inl (was_on f z behind w)) (λ (x : IsNotedSize (notes f) cs ls f n z). noted_on f z apart x)
+
+  granted_on : ArePlacedBehind h cs ls more → AreElsewhere notes cs ls more → IsGranted first h logs notes cs ls n c l → IsGranted first h' logs' notes' cs (ls ++ more) n c l
+  granted_on behind apart g =
+      let f = g.held.file in
+      let k = g.through in
       record {
         held = g.held;
         through = k;
@@ -88,14 +135,9 @@ module _ (ranges : ℕ) (first : ℕ → First) (h h' : ℕ → List Entry) (log
         asks = g.asks;
         line = g.line;
         live = ap (λ (xs : List LogEntry). is_live (is_writable g.held.mode) xs g.held.chunk k.entry k.upto) (on' f).1 ∙ live_on (is_writable g.held.mode) (logs f) (on' f).0 g.held.chunk k.entry k.upto g.live;
-        seen = g.seen;
-        since = seen_front cs ls more f n g.seen low g.since;
-        until = λ m p lt a. ⊎_elim
-            (λ (old : m < length ls). g.until m p lt (placed_front cs ls more f m p old a))
-            (λ (new : length ls ≤ m). let b = behind f m p new a in omega (arith, b, known))
-            (below_or_from m (length ls));
-        known = omega (arith, known, longer);
-        lesser = g.lesser ∙ ap (λ (z : ℕ). min ((g.held.chunk + 1) * chunk_size) z) same;
+        size = g.size;
+        sized = sized_on f g.size behind apart g.sized;
+        lesser = g.lesser;
       }
 
   given_back_on : IsGivenBack cs ls n c l → IsGivenBack cs (ls ++ more) n c l
@@ -118,31 +160,49 @@ module _ (ranges : ℕ) (first : ℕ → First) (h h' : ℕ → List Entry) (log
       q))
       o))
 
-  else_on : ArePlacedBehind h cs ls more → IsElse ranges first h logs cs ls n c l → IsElse ranges first h' logs' cs (ls ++ more) n c l
-  else_on behind = ⊎_elim
-      (λ (b : IsGranted first h logs cs ls n c l). inl (granted_on behind b))
+  else_on : ArePlacedBehind h cs ls more → AreElsewhere notes cs ls more → IsElse ranges first h logs notes cs ls n c l → IsElse ranges first h' logs' notes' cs (ls ++ more) n c l
+  else_on behind apart = ⊎_elim
+      (λ (b : IsGranted first h logs notes cs ls n c l). inl (granted_on behind apart b))
       (λ (o : IsGivenBack cs ls n c l ⊎ IsNotDone ranges cs ls n c l). inr (⊎_elim
       (λ (b : IsGivenBack cs ls n c l). inl (given_back_on b))
       (λ (b : IsNotDone ranges cs ls n c l). inr (not_done_on b))
       o))
 
-  -- a line that is told stays so in longer histories and logs, and after more lines whose places are behind the earlier histories
-  pub told_on : (guest : ℕ) → ArePlacedBehind h cs ls more → IsTold guest ranges first h logs cs ls n c l → IsTold guest ranges first h' logs' cs (ls ++ more) n c l
-  told_on guest behind = ⊎_elim
+  -- A line that is told stays so in longer histories and logs, and after more lines whose places are behind the earlier histories, and in no file of which a size is noted.
+  pub told_on : (guest : ℕ) → ArePlacedBehind h cs ls more → AreElsewhere notes cs ls more → IsTold guest ranges first h logs notes cs ls n c l → IsTold guest ranges first h' logs' notes' cs (ls ++ more) n c l
+  told_on guest behind apart = ⊎_elim
       (λ (d : IsDone guest ranges first h logs cs ls n c l). inl (done_on guest d))
-      (λ (b : IsElse ranges first h logs cs ls n c l). inr (else_on behind b))
+      (λ (b : IsElse ranges first h logs notes cs ls n c l). inr (else_on behind apart b))
 
--- the histories go on by entries of others, and the logs go on
-pub seen_on : (guest ranges : ℕ) (first : ℕ → First) (from : ℕ → ℕ) (h h' : ℕ → List Entry) (logs logs' : ℕ → List LogEntry) (cs : List Call) (ls : List Numbered)
-    → ((f : ℕ) → GoesOn guest (h f) (h' f)) → ((f : ℕ) → LogGoesOn (logs f) (logs' f)) → IsRunFrom guest ranges first from h logs cs ls → IsRunFrom guest ranges first from h' logs' cs ls
-seen_on guest ranges first from h h' logs logs' cs ls on on' r = record {
+-- the histories go on by entries of others, and so do the logs and the sizes that are noted
+pub seen_on : (guest ranges : ℕ) (first : ℕ → First) (from : ℕ → ℕ) (h h' : ℕ → List Entry) (logs logs' : ℕ → List LogEntry) (notes notes' : ℕ → List Note) (cs : List Call) (ls : List Numbered)
+    → ((f : ℕ) → GoesOn guest (h f) (h' f)) → ((f : ℕ) → LogGoesOn (logs f) (logs' f)) → ((f : ℕ) → NotesGoOn (first f) (h' f) (notes f) (notes' f)) → IsRunFrom guest ranges first from h logs notes cs ls → IsRunFrom guest ranges first from h' logs' notes' cs ls
+seen_on guest ranges first from h h' logs logs' notes notes' cs ls on on' keep r = record {
   told = λ n c l at at'.
       let lt = within ls n l at' in
-      let behind : ArePlacedBehind h cs ls [] = λ f m p high a. (let w = within (ls ++ []) m a.line a.told in absurd (omega (arith, high, w, length-append ls []))) in
-      subst (λ (k : List Numbered). IsTold guest ranges first h' logs' cs k n c l) (append-nil ls) (told_on ranges first h h' logs logs' cs ls [] n c l (omega (arith, lt)) (λ f. ((on f).0, (on f).1)) on' guest behind (r.told n c l at at'));
+      let none : (f m p : ℕ) → length ls ≤ m → IsPlaced cs (ls ++ []) f m p → ⊥ = λ f m p high a. (let w = within (ls ++ []) m a.line a.told in absurd (omega (arith, high, w, length-append ls []))) in
+      let behind : ArePlacedBehind h cs ls [] = λ f m p high a. absurd (none f m p high a) in
+      let apart : AreElsewhere notes cs ls [] = λ f m p k note noted high a. none f m p high a in
+      subst (λ (k : List Numbered). IsTold guest ranges first h' logs' notes' cs k n c l) (append-nil ls)
+      (told_on ranges first h h' logs logs' notes notes' cs ls [] n c l (omega (arith, lt)) (λ f. ((on f).0, (on f).1)) on' keep guest behind apart (r.told n c l at at'));
   only = λ f p e le at is. r.only f p e le (in_front (h f) (on f).0 p e (ap (λ (xs : List Entry). slice_get xs p) (sym (on f).1) ∙ at) ((on f).2 p e at is)) is;
   rising = r.rising;
 }
+
+-- the histories and the logs stay, and so does what is noted
+pub noted_by : (guest ranges : ℕ) (first : ℕ → First) (from : ℕ → ℕ) (h : ℕ → List Entry) (logs : ℕ → List LogEntry) (notes notes' : ℕ → List Note) (cs : List Call) (ls : List Numbered)
+    → ((f k : ℕ) (note : Note) → slice_get (notes f) k ≡ Some note → slice_get (notes' f) k ≡ Some note) → IsRunFrom guest ranges first from h logs notes cs ls → IsRunFrom guest ranges first from h logs notes' cs ls
+noted_by guest ranges first from h logs notes notes' cs ls stay =
+    seen_on guest ranges first from h h logs logs notes notes' cs ls (λ f. ([], sym (append-nil (h f)), λ p e at by. within (h f) p e at)) (λ f. ([], sym (append-nil (logs f)))) (λ f k note at none. inl (stay f k note at))
+
+-- each size that is noted of a file, and has no upper end, was the file's between its lower end and the end of the history
+abbrev pub AreSettled : (ℕ → First) → (ℕ → List Entry) → (ℕ → List Note) → Type 0
+AreSettled first h notes = (f k : ℕ) (note : Note) → slice_get (notes f) k ≡ Some note → note.upper ≡ None → IsFresh (first f) (h f) note.lower (length (h f)) note.size
+
+-- the histories go on by entries of others, and the logs go on, until no size is only noted
+pub settled : (guest ranges : ℕ) (first : ℕ → First) (from : ℕ → ℕ) (h h' : ℕ → List Entry) (logs logs' : ℕ → List LogEntry) (notes : ℕ → List Note) (cs : List Call) (ls : List Numbered)
+    → ((f : ℕ) → GoesOn guest (h f) (h' f)) → ((f : ℕ) → LogGoesOn (logs f) (logs' f)) → AreSettled first h' notes → IsRunFrom guest ranges first from h logs notes cs ls → IsRunFrom guest ranges first from h' logs' (λ f. []) cs ls
+settled guest ranges first from h h' logs logs' notes cs ls on on' are = seen_on guest ranges first from h h' logs logs' notes (λ f. []) cs ls on on' (λ f k note at none. inr (are f k note at none))
 
 -- ---- lines with a place and lines without
 
@@ -158,10 +218,10 @@ place_is l n p a is = ap (λ (x : Numbered). place_of x.line) is
 nowhere : (l : Numbered) (n : ℕ) (says : Line) → l ≡ record { call = n; line = says } → place_of says ≡ None → place_of l.line ≡ None
 nowhere l n says is none = ap (λ (x : Numbered). place_of x.line) is ∙ none
 
-pub else_nowhere : (ranges : ℕ) (first : ℕ → First) (h : ℕ → List Entry) (logs : ℕ → List LogEntry) (cs : List Call) (ls : List Numbered) (n : ℕ) (c : Call) (l : Numbered) → IsElse ranges first h logs cs ls n c l → place_of l.line ≡ None
+pub else_nowhere : (ranges : ℕ) (first : ℕ → First) (h : ℕ → List Entry) (logs : ℕ → List LogEntry) (notes : ℕ → List Note) (cs : List Call) (ls : List Numbered) (n : ℕ) (c : Call) (l : Numbered) → IsElse ranges first h logs notes cs ls n c l → place_of l.line ≡ None
 unfolding place_of
-else_nowhere ranges first h logs cs ls n c l = ⊎_elim
-    (λ (g : IsGranted first h logs cs ls n c l). nowhere l n (lines.Held g.end g.through) g.line refl)
+else_nowhere ranges first h logs notes cs ls n c l = ⊎_elim
+    (λ (g : IsGranted first h logs notes cs ls n c l). nowhere l n (lines.Held g.end g.through) g.line refl)
     (⊎_elim
     (λ (g : IsGivenBack cs ls n c l). nowhere l n lines.Released g.line refl)
     (⊎_elim
@@ -173,16 +233,16 @@ else_nowhere ranges first h logs cs ls n c l = ⊎_elim
     (λ (g : IsPast cs ls n c l). nowhere l n (lines.Past g.grant.end) g.line refl)))))
 
 -- a call that has a place in a file is done there
-pub done_there : (guest ranges : ℕ) (first : ℕ → First) (h : ℕ → List Entry) (logs : ℕ → List LogEntry) (cs : List Call) (ls : List Numbered) (n p : ℕ) (c : Call) (l : Numbered) → place_of l.line ≡ Some p → IsTold guest ranges first h logs cs ls n c l
+pub done_there : (guest ranges : ℕ) (first : ℕ → First) (h : ℕ → List Entry) (logs : ℕ → List LogEntry) (notes : ℕ → List Note) (cs : List Call) (ls : List Numbered) (n p : ℕ) (c : Call) (l : Numbered) → place_of l.line ≡ Some p → IsTold guest ranges first h logs notes cs ls n c l
     → (d : IsDone guest ranges first h logs cs ls n c l) × (d.place ≡ p)
-done_there guest ranges first h logs cs ls n p c l at = ⊎_elim
+done_there guest ranges first h logs notes cs ls n p c l at = ⊎_elim
     (λ (d : IsDone guest ranges first h logs cs ls n c l). (d, the_place l n d.place p (answer (bytes (first d.to.file) (h d.to.file) d.place) d.to.op) d.line at))
-    (λ (b : IsElse ranges first h logs cs ls n c l). absurd (none_is p (sym (else_nowhere ranges first h logs cs ls n c l b) ∙ at)))
+    (λ (b : IsElse ranges first h logs notes cs ls n c l). absurd (none_is p (sym (else_nowhere ranges first h logs notes cs ls n c l b) ∙ at)))
 
 -- the places of a guest's calls in a file are within its history
-pub seen_all : (guest ranges : ℕ) (first : ℕ → First) (from : ℕ → ℕ) (h : ℕ → List Entry) (logs : ℕ → List LogEntry) (cs : List Call) (ls : List Numbered) (f n : ℕ) → IsRunFrom guest ranges first from h logs cs ls → IsSeenBefore cs ls f n (length (h f))
-seen_all guest ranges first from h logs cs ls f n r = λ m p lt a.
-    let x = done_there guest ranges first h logs cs ls m p a.call a.line a.place (r.told m a.call a.line a.made a.told) in
+pub seen_all : (guest ranges : ℕ) (first : ℕ → First) (from : ℕ → ℕ) (h : ℕ → List Entry) (logs : ℕ → List LogEntry) (notes : ℕ → List Note) (cs : List Call) (ls : List Numbered) (f n : ℕ) → IsRunFrom guest ranges first from h logs notes cs ls → IsSeenBefore cs ls f n (length (h f))
+seen_all guest ranges first from h logs notes cs ls f n r = λ m p lt a.
+    let x = done_there guest ranges first h logs notes cs ls m p a.call a.line a.place (r.told m a.call a.line a.made a.told) in
     let d = x.0 in
     let same : d.to.file ≡ f = ap (λ (k : Asked). k.file) (some_is d.to (record { file = f; op = a.op }) (sym d.asks ∙ a.asks)) in
     let low = within (h d.to.file) d.place (the_entry guest m d.to.op d.way) d.entry in
@@ -193,39 +253,51 @@ seen_all guest ranges first from h logs cs ls f n r = λ m p lt a.
 pub seen_until_next : (cs : List Call) (ls : List Numbered) (f k : ℕ) → IsSeenUntil cs ls f (length ls) k
 seen_until_next cs ls f k = λ m p lt a. let w = within ls m a.line a.told in absurd (omega (arith, lt, w))
 
--- the next call is granted a hold, by what is seen after it, with a size that the file had at a length from the seen one on
-pub granted_next : (guest ranges : ℕ) (first : ℕ → First) (from : ℕ → ℕ) (h h' : ℕ → List Entry) (logs logs' : ℕ → List LogEntry) (cs : List Call) (ls : List Numbered) (c : Call) (held : Held) (end : ℕ) (through : Through) (seen : ℕ)
-    → IsRunFrom guest ranges first from h logs cs ls → held_of c ≡ Some held → is_live (is_writable held.mode) (logs' held.file) held.chunk through.entry through.upto ≡ true
-    → length (h held.file) ≤ seen → seen ≤ length (h' held.file) → end ≡ min ((held.chunk + 1) * chunk_size) (size (first held.file) (h' held.file) seen)
-    → IsGranted first h' logs' cs ls (length ls) c (record { call = length ls; line = lines.Held end through })
-granted_next guest ranges first from h h' logs logs' cs ls c held end through seen r asks live low known lesser = record {
-  held = held;
-  through = through;
-  end = end;
-  asks = asks;
-  line = refl;
-  live = live;
+-- a size that the file had at a length from the seen one on, before the next call
+pub was_next : (guest ranges : ℕ) (first : ℕ → First) (from : ℕ → ℕ) (h h' : ℕ → List Entry) (logs : ℕ → List LogEntry) (notes : ℕ → List Note) (cs : List Call) (ls : List Numbered) (f seen z : ℕ)
+    → IsRunFrom guest ranges first from h logs notes cs ls → length (h f) ≤ seen → seen ≤ length (h' f) → z ≡ size (first f) (h' f) seen → WasSize (first f) (h' f) cs ls f (length ls) z
+was_next guest ranges first from h h' logs notes cs ls f seen z r low known is = record {
   seen = seen;
-  since = λ m p lt a. let below = seen_all guest ranges first from h logs cs ls held.file (length ls) r m p lt a in omega (arith, below, low);
-  until = seen_until_next cs ls held.file seen;
+  since = λ m p lt a. let below = seen_all guest ranges first from h logs notes cs ls f (length ls) r m p lt a in omega (arith, below, low);
+  until = seen_until_next cs ls f seen;
   known = known;
-  lesser = lesser;
+  is = is;
 }
+
+-- a size that is noted from such a length on
+pub noted_next : (guest ranges : ℕ) (first : ℕ → First) (from : ℕ → ℕ) (h : ℕ → List Entry) (logs : ℕ → List LogEntry) (notes : ℕ → List Note) (cs : List Call) (ls : List Numbered) (f z at : ℕ) (note : Note) (its : List Note)
+    → IsRunFrom guest ranges first from h logs notes cs ls → slice_get its at ≡ Some note → note.size ≡ z → note.upper ≡ None → length (h f) ≤ note.lower → IsNotedSize its cs ls f (length ls) z
+noted_next guest ranges first from h logs notes cs ls f z at note its r noted is upper low = record {
+  at = at;
+  note = note;
+  noted = noted;
+  size = is;
+  upper = upper;
+  since = λ m p lt a. let below = seen_all guest ranges first from h logs notes cs ls f (length ls) r m p lt a in omega (arith, below, low);
+  last = λ m p lt a. let w = within ls m a.line a.told in absurd (omega (arith, lt, w));
+}
+
+-- the next call is granted a hold, by what is seen after it
+pub granted_next : (first : ℕ → First) (h' : ℕ → List Entry) (logs' : ℕ → List LogEntry) (notes' : ℕ → List Note) (cs : List Call) (ls : List Numbered) (c : Call) (held : Held) (end : ℕ) (through : Through) (z : ℕ)
+    → held_of c ≡ Some held → is_live (is_writable held.mode) (logs' held.file) held.chunk through.entry through.upto ≡ true
+    → WasSize (first held.file) (h' held.file) cs ls held.file (length ls) z ⊎ IsNotedSize (notes' held.file) cs ls held.file (length ls) z → end ≡ min ((held.chunk + 1) * chunk_size) z
+    → IsGranted first h' logs' notes' cs ls (length ls) c (record { call = length ls; line = lines.Held end through })
+granted_next first h' logs' notes' cs ls c held end through z asks live sized lesser = record { held = held; through = through; end = end; asks = asks; line = refl; live = live; size = z; sized = sized; lesser = lesser }
 
 of_more : (guest : ℕ) (cs : List Call) (ls more : List Numbered) (f p : ℕ) (e : Entry) → IsOf guest cs ls f p e → IsOf guest cs (ls ++ more) f p e
 of_more guest cs ls more f p e o = record { call = o.call; made = o.made; asks = o.asks; by = o.by; line = o.line; told = front ls more e.call o.line o.told; place = o.place }
 
 -- ---- one more line
 
-module _ (guest ranges : ℕ) (first : ℕ → First) (from : ℕ → ℕ) (h h' : ℕ → List Entry) (logs : ℕ → List LogEntry) (cs : List Call) (ls : List Numbered) (c : Call) (l : Numbered) (made : slice_get cs (length ls) ≡ Some c) (r : IsRunFrom guest ranges first from h logs cs ls) where
+module _ (guest ranges : ℕ) (first : ℕ → First) (from : ℕ → ℕ) (h h' : ℕ → List Entry) (logs : ℕ → List LogEntry) (notes : ℕ → List Note) (cs : List Call) (ls : List Numbered) (c : Call) (l : Numbered) (made : slice_get cs (length ls) ≡ Some c) (r : IsRunFrom guest ranges first from h logs notes cs ls) where
   -- each line is told, the new one too
-  told_more : AreLonger h h' → ArePlacedBehind h cs ls (l ∷ []) → IsTold guest ranges first h' logs cs (ls ++ l ∷ []) (length ls) c l → (n : ℕ) (d : Call) (k : Numbered) → slice_get cs n ≡ Some d → slice_get (ls ++ l ∷ []) n ≡ Some k
-      → IsTold guest ranges first h' logs cs (ls ++ l ∷ []) n d k
-  told_more longer behind newest n d k at at' = ⊎_elim
-      (λ (old : slice_get ls n ≡ Some k). let w = within ls n k old in told_on ranges first h h' logs logs cs ls (l ∷ []) n d k (omega (arith, w)) longer (λ f. ([], sym (append-nil (logs f)))) guest behind (r.told n d k at old))
+  told_more : AreLonger h h' → ArePlacedBehind h cs ls (l ∷ []) → AreElsewhere notes cs ls (l ∷ []) → IsTold guest ranges first h' logs notes cs (ls ++ l ∷ []) (length ls) c l → (n : ℕ) (d : Call) (k : Numbered) → slice_get cs n ≡ Some d → slice_get (ls ++ l ∷ []) n ≡ Some k
+      → IsTold guest ranges first h' logs notes cs (ls ++ l ∷ []) n d k
+  told_more longer behind apart newest n d k at at' = ⊎_elim
+      (λ (old : slice_get ls n ≡ Some k). let w = within ls n k old in told_on ranges first h h' logs logs notes notes cs ls (l ∷ []) n d k (omega (arith, w)) longer (λ f. ([], sym (append-nil (logs f)))) (λ f k note at none. inl at) guest behind apart (r.told n d k at old))
       (λ (new : (n ≡ length ls) × (l ≡ k)).
       let same : c ≡ d = some_is c d (sym made ∙ (ap (λ (m : ℕ). slice_get cs m) (sym new.0) ∙ at)) in
-      subst (λ (z : ℕ × Call × Numbered). IsTold guest ranges first h' logs cs (ls ++ l ∷ []) z.0 z.1 z.2) (λ i. (sym new.0 i, same i, new.1 i)) newest)
+      subst (λ (z : ℕ × Call × Numbered). IsTold guest ranges first h' logs notes cs (ls ++ l ∷ []) z.0 z.1 z.2) (λ i. (sym new.0 i, same i, new.1 i)) newest)
       (at_end ls l k n at')
 
   -- the places rise where that of the new line is above the earlier ones
@@ -239,25 +311,27 @@ module _ (guest ranges : ℕ) (first : ℕ → First) (from : ℕ → ℕ) (h h'
       (at_end ls l b.line m b.told)
 
 -- a line of the next call that has no place: nothing in any file
-pub one_else : (guest ranges : ℕ) (first : ℕ → First) (from : ℕ → ℕ) (h : ℕ → List Entry) (logs : ℕ → List LogEntry) (cs : List Call) (ls : List Numbered) (c : Call) (l : Numbered)
-    → slice_get cs (length ls) ≡ Some c → IsRunFrom guest ranges first from h logs cs ls → IsElse ranges first h logs cs ls (length ls) c l → IsRunFrom guest ranges first from h logs cs (ls ++ l ∷ [])
-one_else guest ranges first from h logs cs ls c l made r b =
-    let none : place_of l.line ≡ None = else_nowhere ranges first h logs cs ls (length ls) c l b in
+pub one_else : (guest ranges : ℕ) (first : ℕ → First) (from : ℕ → ℕ) (h : ℕ → List Entry) (logs : ℕ → List LogEntry) (notes : ℕ → List Note) (cs : List Call) (ls : List Numbered) (c : Call) (l : Numbered)
+    → slice_get cs (length ls) ≡ Some c → IsRunFrom guest ranges first from h logs notes cs ls → IsElse ranges first h logs notes cs ls (length ls) c l → IsRunFrom guest ranges first from h logs notes cs (ls ++ l ∷ [])
+one_else guest ranges first from h logs notes cs ls c l made r b =
+    let none : place_of l.line ≡ None = else_nowhere ranges first h logs notes cs ls (length ls) c l b in
     let same : AreLonger h h = λ f. ([], sym (append-nil (h f))) in
-    let behind : ArePlacedBehind h cs ls (l ∷ []) = λ f m p high a. ⊎_elim
+    let not_placed : (f m p : ℕ) → length ls ≤ m → IsPlaced cs (ls ++ l ∷ []) f m p → ⊥ = λ f m p high a. ⊎_elim
     (λ (old : slice_get ls m ≡ Some a.line). (let w = within ls m a.line old in absurd (omega (arith, w, high))))
-    (λ (new : (m ≡ length ls) × (l ≡ a.line)). absurd (none_is p (sym none ∙ (ap (λ (x : Numbered). place_of x.line) new.1 ∙ a.place))))
+    (λ (new : (m ≡ length ls) × (l ≡ a.line)). none_is p (sym none ∙ (ap (λ (x : Numbered). place_of x.line) new.1 ∙ a.place)))
     (at_end ls l a.line m a.told) in
+    let behind : ArePlacedBehind h cs ls (l ∷ []) = λ f m p high a. absurd (not_placed f m p high a) in
+    let apart : AreElsewhere notes cs ls (l ∷ []) = λ f m p k note noted high a. not_placed f m p high a in
     record {
-      told = told_more guest ranges first from h h logs cs ls c l made r same behind (inr (else_on ranges first h h logs logs cs ls (l ∷ []) (length ls) c l (omega arith) same (λ f. ([], sym (append-nil (logs f)))) behind b));
+      told = told_more guest ranges first from h h logs notes cs ls c l made r same behind apart (inr (else_on ranges first h h logs logs notes notes cs ls (l ∷ []) (length ls) c l (omega arith) same (λ f. ([], sym (append-nil (logs f)))) (λ f k note at none. inl at) behind apart b));
       only = λ f p e le at by. of_more guest cs ls (l ∷ []) f p e (r.only f p e le at by);
-      rising = rising_more guest ranges first from h h logs cs ls c l made r (λ f n p q op a asks place. absurd (none_is q (sym none ∙ place)));
+      rising = rising_more guest ranges first from h h logs notes cs ls c l made r (λ f n p q op a asks place. absurd (none_is q (sym none ∙ place)));
     }
 
--- the next call is the newest entry of its file
-module _ (guest ranges : ℕ) (first : ℕ → First) (from : ℕ → ℕ) (h h' : ℕ → List Entry) (logs : ℕ → List LogEntry) (cs : List Call) (ls : List Numbered) (c : Call) (to : Asked) (way : Way) (l : Numbered) (made : slice_get cs (length ls) ≡ Some c) (r : IsRunFrom guest ranges first from h logs cs ls) (asks : asked cs c ≡ Some to)
+-- the next call is the newest entry of its file, of which no size is noted any more
+module _ (guest ranges : ℕ) (first : ℕ → First) (from : ℕ → ℕ) (h h' : ℕ → List Entry) (logs : ℕ → List LogEntry) (notes : ℕ → List Note) (cs : List Call) (ls : List Numbered) (c : Call) (to : Asked) (way : Way) (l : Numbered) (made : slice_get cs (length ls) ≡ Some c) (r : IsRunFrom guest ranges first from h logs notes cs ls) (asks : asked cs c ≡ Some to)
     (came : Came ranges (first to.file) (h' to.file) (logs to.file) cs ls (length ls) (hold_in c) (length (h to.file)) to way)
-    (here : h' to.file ≡ h to.file ++ the_entry guest (length ls) to.op way ∷ []) (else_same : (f : ℕ) → f ≢ to.file → h' f ≡ h f)
+    (here : h' to.file ≡ h to.file ++ the_entry guest (length ls) to.op way ∷ []) (else_same : (f : ℕ) → f ≢ to.file → h' f ≡ h f) (quiet : notes to.file ≡ [])
     (is : l ≡ record { call = length ls; line = lines.Done (length (h to.file)) (answer (bytes (first to.file) (h to.file) (length (h to.file))) to.op) }) where
   longer : AreLonger h h'
   longer f = dite (ℕ_discrete f to.file)
@@ -278,6 +352,15 @@ module _ (guest ranges : ℕ) (first : ℕ → First) (from : ℕ → ℕ) (h h'
       let at = its_place f p a.op (ap (asked cs) same ∙ a.asks) (ap (λ (x : Numbered). place_of x.line) new.1 ∙ a.place) in omega (arith, at))
       (at_end ls l a.line m a.told)
 
+  apart : AreElsewhere notes cs ls (l ∷ [])
+  apart f m p k note noted high a = ⊎_elim
+      (λ (old : slice_get ls m ≡ Some a.line). (let w = within ls m a.line old in absurd (omega (arith, w, high))))
+      (λ (new : (m ≡ length ls) × (l ≡ a.line)).
+      let same : c ≡ a.call = some_is c a.call (sym made ∙ (ap (λ (k : ℕ). slice_get cs k) (sym new.0) ∙ a.made)) in
+      let file : to.file ≡ f = ap (λ (x : Asked). x.file) (some_is to (record { file = f; op = a.op }) (sym asks ∙ (ap (asked cs) same ∙ a.asks))) in
+      none_is note (ap (λ (ns : List Note). slice_get ns k) (sym quiet) ∙ (ap (λ (g : ℕ). slice_get (notes g) k) file ∙ noted)))
+      (at_end ls l a.line m a.told)
+
   newest : IsDone guest ranges first h' logs cs (ls ++ l ∷ []) (length ls) c l
   newest = let f = to.file in let e = the_entry guest (length ls) to.op way in
       let grown : length (h' f) ≡ length (h f ++ e ∷ []) = ap (λ (xs : List Entry). length xs) here in
@@ -293,9 +376,9 @@ module _ (guest ranges : ℕ) (first : ℕ → First) (from : ℕ → ℕ) (h h'
         came = came_on ranges (first f) (h' f) (h' f) (logs f) (logs f) cs ls (l ∷ []) (length ls) (hold_in c) (length (h f)) to way ([], sym (append-nil (h' f))) ([], sym (append-nil (logs f))) (omega arith) low came;
       }
 
-  pub one_more : IsRunFrom guest ranges first from h' logs cs (ls ++ l ∷ [])
+  pub one_more : IsRunFrom guest ranges first from h' logs notes cs (ls ++ l ∷ [])
   one_more = record {
-    told = told_more guest ranges first from h h' logs cs ls c l made r longer behind (inl newest);
+    told = told_more guest ranges first from h h' logs notes cs ls c l made r longer behind apart (inl newest);
     only = λ f p e le at by. dite (ℕ_discrete f to.file)
         (λ same. ⊎_elim (λ (old : slice_get (h f) p ≡ Some e). of_more guest cs ls (l ∷ []) f p e (r.only f p e le old by))
         (λ (new : (p ≡ length (h f)) × (the_entry guest (length ls) to.op way ≡ e)). subst (λ (z : Entry). IsOf guest cs (ls ++ l ∷ []) f p z) new.1 record {
@@ -309,8 +392,8 @@ module _ (guest ranges : ℕ) (first : ℕ → First) (from : ℕ → ℕ) (h h'
         })
         (at_end (h f) (the_entry guest (length ls) to.op way) e p (ap (λ (xs : List Entry). slice_get xs p) (sym (ap h' same ∙ (here ∙ ap (λ (x : ℕ). h x ++ the_entry guest (length ls) to.op way ∷ []) (sym same)))) ∙ at)))
         (λ ne. of_more guest cs ls (l ∷ []) f p e (r.only f p e le (ap (λ (xs : List Entry). slice_get xs p) (sym (else_same f ne)) ∙ at) by));
-    rising = rising_more guest ranges first from h h' logs cs ls c l made r (λ f n p q op a asks' place.
+    rising = rising_more guest ranges first from h h' logs notes cs ls c l made r (λ f n p q op a asks' place.
         let at = its_place f q op asks' place in
         let w = within ls n a.line a.told in
-        let below = seen_all guest ranges first from h logs cs ls f (length ls) r n p w a in omega (arith, at, below));
+        let below = seen_all guest ranges first from h logs notes cs ls f (length ls) r n p w a in omega (arith, at, below));
   }

@@ -23,7 +23,7 @@ use Rattle.guest_io.specs.Going.{one_more_pin, IsBusy}
 use Rattle.guest_io.proofs.HoldLaws.{pin-had}
 use Rattle.guest_io.specs.Holds.{HasHolds, granted_at, pins_of}
 use Rattle.guest_run.specs.Telling.{letter_of, letters_of}
-use Rattle.guest_run.specs.Working.{IsAlone, IsFull, MeetsTwo, NeedsChunk}
+use Rattle.guest_run.specs.Working.{TakesAlone, IsFull, MeetsTwo, NeedsChunk}
 
 -- ---- letters
 
@@ -126,17 +126,17 @@ not_unpinned s h file chunk hold g holds none at on is =
     none g.pinned.range (pin-had s h hold g holds at) (x.pinned ∙ on) (x.shown ∙ is)
 
 -- each range was pinned, and is that of a hold
-pub full_of : (s t : Stand) (h : Holds) (c : Call) (file off len : ℕ) (looked : List Look) → HasHolds s h → Meets c file off len → range_count t.map ≡ range_count s.map → IsSoundRanges t.map → IsBusy s.map file off len looked t.map → IsAlone s → IsFull (range_count s.map) h c (letters_of looked)
+pub full_of : (s t : Stand) (h : Holds) (c : Call) (file off len : ℕ) (looked : List Look) → HasHolds s h → Meets c file off len → range_count t.map ≡ range_count s.map → IsSoundRanges t.map → IsBusy s.map file off len looked t.map → TakesAlone s → IsFull (range_count s.map) h c (letters_of looked)
 full_of s t h c file off len looked holds meets count sound (some, is, how) alone =
     let long : length t.map.ranges.looks ≡ range_count s.map = sound.looks ∙ count in
     let letters : ((r : ℕ) → r < range_count s.map → ShowsPinned t.map r) → letters_of looked ≡ replicate (range_count s.map) 112
     = λ each. ap letters_of is ∙ all_pinned 0 t.map.ranges.looks (λ r within. let p = each r (subst (λ n. r < n) long within) in (p.noted, p.at, p.letter)) ∙ ap (λ n. replicate n 112) long in
     ⊎_elim
     (λ (b : AllBlocked s.map t.map × IsUnplaced s.map file (first_chunk off) t.map). record {
-      pinned = letters (λ r within. shows_pinned s.map t.map r alone.ranges (b.0 r within));
+      pinned = letters (λ r within. shows_pinned s.map t.map r alone.others (b.0 r within));
       missing = None;
       two = tt;
-      each = λ r within apart. held_range s h r holds (has_pins s.map t.map r alone.ranges (b.0 r within));
+      each = λ r within apart. held_range s h r holds (has_pins s.map t.map r alone.others (b.0 r within));
       file = file;
       chunk = first_chunk off;
       needs = meets.needs (first_chunk off) (inl refl);
@@ -146,13 +146,13 @@ full_of s t h c file off len looked holds meets count sound (some, is, how) alon
     let range = b.1.0 in
     let at = λ (r : ℕ) (within : r < range_count s.map). b.1.1 r (subst (λ n. r < n) (sym (count_pinned s.map range)) within) in
     record {
-      pinned = letters (λ r within. shows_pinned (one_more_pin s.map range) t.map r alone.ranges (at r within));
+      pinned = letters (λ r within. shows_pinned (one_more_pin s.map range) t.map r alone.others (at r within));
       missing = Some range;
       two = meets.two b.0;
       file = file;
       chunk = first_chunk off + 1;
       needs = meets.needs (first_chunk off + 1) (inr (sym b.0));
       unheld = λ hold g. not_unpinned s h file (first_chunk off + 1) hold g holds b.2.4;
-      each = λ r within apart. held_range s h r holds (subst (λ n. 0 < n) (pins_elsewhere s.map range r (λ e. apart (ap (λ (n : ℕ). Some n) (sym e)))) (has_pins (one_more_pin s.map range) t.map r alone.ranges (at r within)));
+      each = λ r within apart. held_range s h r holds (subst (λ n. 0 < n) (pins_elsewhere s.map range r (λ e. apart (ap (λ (n : ℕ). Some n) (sym e)))) (has_pins (one_more_pin s.map range) t.map r alone.others (at r within)));
     })
     how

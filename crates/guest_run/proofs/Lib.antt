@@ -13,3 +13,4 @@ pub mod Counting
 pub mod Following
 pub mod Running
 pub mod Fairness
+pub mod Turning

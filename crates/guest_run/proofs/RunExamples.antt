@@ -1,5 +1,5 @@
 -- Ways that fit and ways that don't, and two short runs, by computation.
-use Rattle.std.proofs.Common.{◌≡◌, ◌≢◌, inl, inr, refl, sym, ap, ℕ, zero, suc, ◌+◌, ◌≤◌, List, [], ◌∷◌, length, codes, None, arith}
+use Rattle.std.proofs.Common.{◌≡◌, ◌≢◌, ◌∙◌, inl, inr, refl, sym, ap, ℕ, zero, suc, ◌+◌, ◌≤◌, List, [], ◌∷◌, length, codes, None, arith}
 use Rattle.std.proofs.lemmas.Bool.{true≢false}
 use Rattle.plain_file.specs.declared.operations.Answer.TheVariants as answers
 use Rattle.plain_file.specs.declared.operations.Entry.{Entry}
@@ -10,6 +10,7 @@ use Rattle.plain_file.specs.declared.operations.Way.TheVariants as ways
 use Rattle.plain_file.specs.declared.operations.Through.{Through}
 use Rattle.plain_file.specs.File.{answer}
 use Rattle.plain_file.specs.History.{after_all, bytes, size}
+use Rattle.plain_file.specs.Board.{Note}
 use Rattle.page_map.specs.declared.pages.Mode.TheVariants as modes
 use Rattle.page_map.specs.declared.ranges.LogEntry.{LogEntry}
 use Rattle.page_map.specs.declared.ranges.LogEntry.TheVariants as logs
@@ -27,7 +28,7 @@ use Rattle.dax_audit.specs.Tables.{end_of}
 use Rattle.dax_audit.specs.Rules.{is_taking, chunks, pairs_of, covers}
 use Rattle.guest_run.specs.Runs.{asked, through_hold, the_entry, FitsWindow, FitsWay, CoversOp, Came, IsThroughHold, IsGranted, IsLeased, IsRunFrom}
 use Rattle.guest_run.proofs.Places.{none_is, some_is}
-use Rattle.guest_run.proofs.Guests.{begun, one_else, one_more, seen_until_next}
+use Rattle.guest_run.proofs.Guests.{was_only, begun, one_else, one_more, seen_until_next}
 
 -- an empty file, and one of five bytes
 abbrev empty : First
@@ -74,9 +75,9 @@ no_window : FitsWay 0 five [] placed (from_on 0) 0 (ops.Read 1 2) (via 0 1) → 
 no_window fits = let is : via 0 1 ≡ ways.Req = fits.without refl in cc
 
 -- a run of one read for which none of two ranges could be taken
-blocked_run : (first : ℕ → First) (h : ℕ → List Entry) (log : ℕ → List LogEntry) → IsRunFrom 0 2 first (λ f. length (h f)) h log (calls.Read 0 0 1 ∷ []) (record { call = 0; line = lines.Busy (codes "hh") } ∷ [])
+blocked_run : (first : ℕ → First) (h : ℕ → List Entry) (log : ℕ → List LogEntry) (notes : ℕ → List Note) → IsRunFrom 0 2 first (λ f. length (h f)) h log notes (calls.Read 0 0 1 ∷ []) (record { call = 0; line = lines.Busy (codes "hh") } ∷ [])
 unfolding is_taking
-blocked_run first h log = one_else 0 2 first (λ f. length (h f)) h log (calls.Read 0 0 1 ∷ []) [] (calls.Read 0 0 1) _ refl (begun 0 2 first h log (calls.Read 0 0 1 ∷ [])) (inr (inr (inl (record { letters = codes "hh"; takes = refl; line = refl; some = omega arith; each = refl }))))
+blocked_run first h log notes = one_else 0 2 first (λ f. length (h f)) h log notes (calls.Read 0 0 1 ∷ []) [] (calls.Read 0 0 1) _ refl (begun 0 2 first h log notes (calls.Read 0 0 1 ∷ [])) (inr (inr (inl (record { letters = codes "hh"; takes = refl; line = refl; some = omega arith; each = refl }))))
 
 -- ---- a run through a hold: granted, two bytes loaded, a load past its end, given back, and a load without it
 
@@ -96,6 +97,9 @@ loaded (suc f) = []
 
 abbrev places_of : ℕ → List LogEntry
 places_of f = placed
+
+abbrev none_noted : ℕ → List Note
+none_noted f = []
 
 abbrev pair : Through
 pair = record { entry = 0; upto = 1 }
@@ -126,19 +130,23 @@ unfolding is_live live writable places stays is_written removes upgrades is_writ
 on_values = tt
 
 -- granted through the placement that is live, to the file's end
-run_held : IsRunFrom 0 2 firsts (λ f. 0) nothing_yet places_of held_calls (line_held ∷ [])
+run_held : IsRunFrom 0 2 firsts (λ f. 0) nothing_yet places_of none_noted held_calls (line_held ∷ [])
 unfolding on_values
-run_held = one_else 0 2 firsts (λ f. 0) nothing_yet places_of held_calls [] (calls.Hold 0 0 modes.R) line_held refl (begun 0 2 firsts nothing_yet places_of held_calls) (inl (record {
+run_held = one_else 0 2 firsts (λ f. 0) nothing_yet places_of none_noted held_calls [] (calls.Hold 0 0 modes.R) line_held refl (begun 0 2 firsts nothing_yet places_of none_noted held_calls) (inl (record {
   held = record { file = 0; chunk = 0; mode = modes.R };
   through = pair;
   end = 5;
   asks = refl;
   line = refl;
   live = refl;
-  seen = 0;
-  since = λ m p lt a. absurd (omega (arith, lt));
-  until = seen_until_next held_calls [] 0 0;
-  known = omega arith;
+  size = 5;
+  sized = inl (record {
+    seen = 0;
+    since = λ m p lt a. absurd (omega (arith, lt));
+    until = seen_until_next held_calls [] 0 0;
+    known = omega arith;
+    is = refl;
+  });
   lesser = refl;
 }))
 
@@ -146,24 +154,24 @@ elsewhere : (f : ℕ) → f ≢ 0 → loaded f ≡ nothing_yet f
 elsewhere zero apart = absurd (apart refl)
 elsewhere (suc f) apart = refl
 
-run_loaded : IsRunFrom 0 2 firsts (λ f. 0) loaded places_of held_calls (line_held ∷ line_loaded ∷ [])
+run_loaded : IsRunFrom 0 2 firsts (λ f. 0) loaded places_of none_noted held_calls (line_held ∷ line_loaded ∷ [])
 unfolding on_values
-run_loaded = one_more 0 2 firsts (λ f. 0) nothing_yet loaded places_of held_calls (line_held ∷ []) (calls.Load 0 1 2) (record { file = 0; op = ops.Read 1 2 }) (via 0 1) line_loaded refl run_held refl
-    (record { some = omega arith; grant = given; had = refl; goes = refl; covered = refl; within = omega arith }) refl elsewhere refl
+run_loaded = one_more 0 2 firsts (λ f. 0) nothing_yet loaded places_of none_noted held_calls (line_held ∷ []) (calls.Load 0 1 2) (record { file = 0; op = ops.Read 1 2 }) (via 0 1) line_loaded refl run_held refl
+    (record { some = omega arith; grant = given; had = refl; goes = refl; covered = refl; within = omega arith }) refl elsewhere refl refl
 
-run_past : IsRunFrom 0 2 firsts (λ f. 0) loaded places_of held_calls (line_held ∷ line_loaded ∷ line_past ∷ [])
+run_past : IsRunFrom 0 2 firsts (λ f. 0) loaded places_of none_noted held_calls (line_held ∷ line_loaded ∷ line_past ∷ [])
 unfolding on_values
-run_past = one_else 0 2 firsts (λ f. 0) loaded places_of held_calls (line_held ∷ line_loaded ∷ []) (calls.Load 0 4 2) line_past refl run_loaded
+run_past = one_else 0 2 firsts (λ f. 0) loaded places_of none_noted held_calls (line_held ∷ line_loaded ∷ []) (calls.Load 0 4 2) line_past refl run_loaded
     (inr (inr (inr (inr (inr (record { hold = 0; grant = given; to = record { file = 0; op = ops.Read 4 2 }; uses = refl; asks = refl; line = refl; had = refl; past = omega arith }))))))
 
-run_released : IsRunFrom 0 2 firsts (λ f. 0) loaded places_of held_calls (line_held ∷ line_loaded ∷ line_past ∷ line_released ∷ [])
+run_released : IsRunFrom 0 2 firsts (λ f. 0) loaded places_of none_noted held_calls (line_held ∷ line_loaded ∷ line_past ∷ line_released ∷ [])
 unfolding on_values
-run_released = one_else 0 2 firsts (λ f. 0) loaded places_of held_calls (line_held ∷ line_loaded ∷ line_past ∷ []) (calls.Release 0) line_released refl run_past
+run_released = one_else 0 2 firsts (λ f. 0) loaded places_of none_noted held_calls (line_held ∷ line_loaded ∷ line_past ∷ []) (calls.Release 0) line_released refl run_past
     (inr (inl (record { hold = 0; grant = given; gives = refl; line = refl; had = refl })))
 
-run_without : IsRunFrom 0 2 firsts (λ f. 0) loaded places_of held_calls (line_held ∷ line_loaded ∷ line_past ∷ line_released ∷ line_without ∷ [])
+run_without : IsRunFrom 0 2 firsts (λ f. 0) loaded places_of none_noted held_calls (line_held ∷ line_loaded ∷ line_past ∷ line_released ∷ line_without ∷ [])
 unfolding on_values
-run_without = one_else 0 2 firsts (λ f. 0) loaded places_of held_calls (line_held ∷ line_loaded ∷ line_past ∷ line_released ∷ []) (calls.Load 0 0 1) line_without refl run_released
+run_without = one_else 0 2 firsts (λ f. 0) loaded places_of none_noted held_calls (line_held ∷ line_loaded ∷ line_past ∷ line_released ∷ []) (calls.Load 0 0 1) line_without refl run_released
     (inr (inr (inr (inr (inl (record { hold = 0; uses = refl; line = refl; asked = record { at = 0; place = refl; before = omega arith }; none = refl }))))))
 
 -- ---- what fits no run
@@ -179,14 +187,15 @@ unfolding on_values
 through_past_its_end t = let end : 5 ≡ t.grant.end = ap (λ (g : Grant). g.end) (some_is given t.grant t.had) in let within = t.within in omega (arith, end, within)
 
 -- a hold doesn't end behind the file, which was never larger
-held_beyond : IsGranted firsts nothing_yet places_of held_calls [] 0 (calls.Hold 0 0 modes.R) (told 0 (lines.Held 6 pair)) → ⊥
+held_beyond : IsGranted firsts nothing_yet places_of none_noted held_calls [] 0 (calls.Hold 0 0 modes.R) (told 0 (lines.Held 6 pair)) → ⊥
 unfolding on_values
 held_beyond g =
     let line : lines.Held 6 pair ≡ lines.Held g.end g.through = ap (λ (k : Numbered). k.line) g.line in
     let end : 6 ≡ g.end = cc in
-    let known = g.known in
-    let none : g.seen ≡ 0 = omega (arith, known) in
-    let small : size five [] g.seen ≡ 5 = ap (λ (n : ℕ). size five [] n) none in
+    let w = was_only five [] held_calls [] g.held.file 0 g.size g.sized in
+    let known = w.known in
+    let none : w.seen ≡ 0 = omega (arith, known) in
+    let small : g.size ≡ 5 = w.is ∙ ap (λ (n : ℕ). size five [] n) none in
     let lesser = g.lesser in omega (arith, end, small, lesser)
 
 -- a truncation isn't refused where there is no lease

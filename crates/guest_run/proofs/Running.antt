@@ -1,5 +1,5 @@
 -- One call more: the guest's run goes on.
-use Rattle.std.proofs.Common.{◌≡◌, ◌≢◌, inl, inr, ◌∙◌, ap, sym, refl, subst, ℕ, zero, suc, ◌+◌, ◌*◌, ◌/◌, ◌-◌, ◌<◌, ◌≤◌, ◌==◌, min, Bool, true, false, List, [], ◌∷◌, ◌++◌, length, get_or, slice_get, Option, Some, None, arith, length-append, if◌then◌else◌}
+use Rattle.std.proofs.Common.{◌≡◌, ◌≢◌, ◌⊎◌, inl, inr, ⊎_elim, ◌∙◌, ap, sym, refl, subst, ℕ, zero, suc, ◌+◌, ◌*◌, ◌/◌, ◌-◌, ◌<◌, ◌≤◌, ◌==◌, min, Bool, true, false, List, [], ◌∷◌, ◌++◌, length, get_or, slice_get, Option, Some, None, arith, length-append, if◌then◌else◌}
 use Rattle.std.specs.Prelude.{All}
 use Rattle.std.proofs.lemmas.Bool.{eq-eqb, ne_eqb, and_parts, and_from}
 use Rattle.std.proofs.lemmas.List.{append-nil}
@@ -15,7 +15,8 @@ use Rattle.plain_file.specs.declared.operations.Way.{Way}
 use Rattle.plain_file.specs.declared.operations.Way.TheVariants as ways
 use Rattle.plain_file.specs.File.{answer}
 use Rattle.plain_file.specs.History.{bytes, size}
-use Rattle.plain_file.specs.Board.{FileView, file_at, bytes_now}
+use Rattle.plain_file.specs.Board.{Note, FileView, BoardView, file_at, bytes_now}
+use Rattle.plain_file.specs.Sound.{IsFresh}
 use Rattle.page_map.specs.declared.ranges.LogEntry.{LogEntry}
 use Rattle.page_map.specs.declared.pages.Mode.{Mode}
 use Rattle.page_map.specs.declared.pages.Mode.TheVariants as modes
@@ -39,13 +40,14 @@ use Rattle.guest_io.specs.declared.calls.Held.{Held}
 use Rattle.guest_io.specs.declared.guest.Granted.{Granted}
 use Rattle.guest_io.specs.declared.guest.Holds.{Holds}
 use Rattle.guest_io.specs.Calls.{Covers, first_chunk, last_chunk}
+use Rattle.guest_io.specs.Notes.{KeepsNotes}
 use Rattle.guest_io.specs.Going.{KeepsSizes}
 use Rattle.guest_io.specs.Holds.{HasHolds, LeavesRest, granted_at, start_of}
-use Rattle.guest_run.specs.Runs.{Asked, on_file, through_hold, asked, the_entry, FitsWindow, FitsWay, CoversOp, IsAskedBefore, IsSeenBefore, IsThroughHold, Came, IsRunFrom, GoesOn}
-use Rattle.guest_run.specs.Working.{IsCall, AreCalls, first_at, history_at, CameBy, CameThrough, CameFrom, Asks, OnlyOthers, IsMade, IsHeldNow, Tells}
+use Rattle.guest_run.specs.Runs.{Asked, on_file, through_hold, asked, the_entry, FitsWindow, FitsWay, CoversOp, IsAskedBefore, IsSeenBefore, IsThroughHold, Came, WasSize, IsNotedSize, IsRunFrom, GoesOn, NotesGoOn}
+use Rattle.guest_run.specs.Working.{IsCall, AreCalls, first_at, history_at, notes_at, CameBy, CameThrough, CameFrom, Asks, OnlyOthers, IsMade, IsHeldNow, Tells}
 use Rattle.guest_run.proofs.Places.{none_is, some_is, within}
 use Rattle.guest_run.proofs.Ways.{size_front, live_on}
-use Rattle.guest_run.proofs.Guests.{IsElse, seen_on, seen_all, one_else, one_more, granted_next}
+use Rattle.guest_run.proofs.Guests.{IsElse, seen_on, noted_by, seen_all, one_else, one_more, was_next, noted_next, granted_next}
 use Rattle.guest_run.proofs.Following.{grant_for, wanted_of, IsFollowed, granted_for_writing, hold_wants}
 
 -- ---- ways
@@ -114,6 +116,53 @@ goes_one guest h f more others g = dite (ℕ_discrete g f)
     (λ e. subst (λ (x : ℕ). GoesOn guest (h x) (with_history h f (h f ++ more) x)) (sym e) (subst (GoesOn guest (h f)) (sym (at_file h f (h f ++ more))) (goes_by guest (h f) more others)))
     (λ apart. subst (GoesOn guest (h g)) (sym (at_other h f g (h f ++ more) apart)) (goes_same guest (h g)))
 
+-- ---- sizes that are noted
+
+there_shared : (plain : Bool) (notes : List Note) (k : ℕ) (n : Note) → slice_get (if plain then [] else notes) k ≡ Some n → (plain ≡ false) × (slice_get notes k ≡ Some n)
+there_shared true notes k n at = absurd (none_is n at)
+there_shared false notes k n at = (refl, at)
+
+-- what counts as noted is so on a shared board alone
+noted_there : (v : BoardView) (f k : ℕ) (n : Note) → slice_get (notes_at v f) k ≡ Some n → (v.plain ≡ false) × (slice_get (file_at v f).notes k ≡ Some n)
+noted_there v f = there_shared v.plain (file_at v f).notes
+
+shared_notes : (v : BoardView) (f : ℕ) → v.plain ≡ false → notes_at v f ≡ (file_at v f).notes
+shared_notes v f shared = ap (λ (b : Bool). if b then [] else (file_at v f).notes) shared
+
+-- a file that stays has the same sizes noted
+same_noted : (v w : BoardView) (f : ℕ) → w.plain ≡ v.plain → file_at w f ≡ file_at v f → notes_at w f ≡ notes_at v f
+same_noted v w f plain same = λ i. if plain i then [] else (same i).notes
+
+-- what is kept of a file's notes
+notes_go_on : (v w : BoardView) (first : First) (f : ℕ) → w.plain ≡ v.plain → first_at w f ≡ first → KeepsNotes (file_at v f) (file_at w f) → NotesGoOn first (history_at w f) (notes_at v f) (notes_at w f)
+notes_go_on v w first f plain is keeps = subst (λ (y : First). NotesGoOn y (history_at w f) (notes_at v f) (notes_at w f)) is (λ k n at none.
+    let there = noted_there v f k n at in
+    ⊎_elim
+    (λ (stays : slice_get (file_at w f).notes k ≡ Some n). inl (ap (λ (ns : List Note). slice_get ns k) (shared_notes w f (plain ∙ there.0)) ∙ stays))
+    (λ (fresh : IsFresh (first_at w f) (history_at w f) n.lower (length (history_at w f)) n.size). inr fresh)
+    (keeps k n there.1 none))
+
+-- the notes without those of one file
+abbrev pub without_notes : (ℕ → List Note) → ℕ → ℕ → List Note
+without_notes notes f g = if g == f then [] else notes g
+
+notes_gone : (notes : ℕ → List Note) (f : ℕ) → without_notes notes f f ≡ []
+notes_gone notes f = ap (λ (b : Bool). if b then [] else notes f) (eq-eqb f f refl)
+
+notes_else : (notes : ℕ → List Note) (f g : ℕ) → g ≢ f → without_notes notes f g ≡ notes g
+notes_else notes f g apart = ap (λ (b : Bool). if b then [] else notes g) (ne_eqb g f apart)
+
+-- and so are among them
+notes_among : (notes : ℕ → List Note) (f g k : ℕ) (n : Note) → slice_get (without_notes notes f g) k ≡ Some n → slice_get (notes g) k ≡ Some n
+notes_among notes f g k n at = (there_shared (g == f) (notes g) k n at).1
+
+-- a size that a file had up to the place of its newest entry was so before that entry
+fresh_before : (first : First) (past : List Entry) (e : Entry) (lower place z : ℕ) → length (past ++ e ∷ []) ≡ place + 1 → IsFresh first (past ++ e ∷ []) lower place z → IsFresh first past lower (length past) z
+fresh_before first past e lower place z at (n, low, high, known, is) =
+    let end : length past ≡ place = omega (arith, at, length-append past (e ∷ [])) in
+    let upto : n ≤ length past = omega (arith, high, end) in
+    (n, low, upto, omega arith, is ∙ size_front first past (e ∷ []) n upto)
+
 -- ---- through a hold
 
 -- what is live for writing is live
@@ -147,17 +196,17 @@ asks_so cs ls h (calls.Store hold off xs) to f (g, at, e) = asked_through (held_
 asks_so cs ls h (calls.Release hold) to f e = absurd e
 
 -- a hold that a call uses was asked for before
-asked_before : (files ranges : ℕ) (plain : Bool) (cs : List Call) (n hold : ℕ) (c : Call) → hold_in c ≡ Some hold → IsCall files ranges plain cs n c → IsAskedBefore cs n hold
+asked_before : (files ranges : ℕ) (cs : List Call) (n hold : ℕ) (c : Call) → hold_in c ≡ Some hold → IsCall files ranges cs n c → IsAskedBefore cs n hold
 unfolding hold_in IsCall
-asked_before files ranges plain cs n hold (calls.Read file off len) e is = absurd (none_is hold e)
-asked_before files ranges plain cs n hold (calls.Write file off xs) e is = absurd (none_is hold e)
-asked_before files ranges plain cs n hold (calls.Fill file off len byte) e is = absurd (none_is hold e)
-asked_before files ranges plain cs n hold (calls.Size file) e is = absurd (none_is hold e)
-asked_before files ranges plain cs n hold (calls.Truncate file size) e is = absurd (none_is hold e)
-asked_before files ranges plain cs n hold (calls.Hold file chunk mode) e is = absurd (none_is hold e)
-asked_before files ranges plain cs n hold (calls.Load k off len) e is = subst (IsAskedBefore cs n) (some_is k hold e) is.0
-asked_before files ranges plain cs n hold (calls.Store k off xs) e is = subst (IsAskedBefore cs n) (some_is k hold e) is.0
-asked_before files ranges plain cs n hold (calls.Release k) e is = subst (IsAskedBefore cs n) (some_is k hold e) is
+asked_before files ranges cs n hold (calls.Read file off len) e is = absurd (none_is hold e)
+asked_before files ranges cs n hold (calls.Write file off xs) e is = absurd (none_is hold e)
+asked_before files ranges cs n hold (calls.Fill file off len byte) e is = absurd (none_is hold e)
+asked_before files ranges cs n hold (calls.Size file) e is = absurd (none_is hold e)
+asked_before files ranges cs n hold (calls.Truncate file size) e is = absurd (none_is hold e)
+asked_before files ranges cs n hold (calls.Hold file chunk mode) e is = absurd (none_is hold e)
+asked_before files ranges cs n hold (calls.Load k off len) e is = subst (IsAskedBefore cs n) (some_is k hold e) is.0
+asked_before files ranges cs n hold (calls.Store k off xs) e is = subst (IsAskedBefore cs n) (some_is k hold e) is.0
+asked_before files ranges cs n hold (calls.Release k) e is = subst (IsAskedBefore cs n) (some_is k hold e) is
 
 truncates : (c : Call) (file size : ℕ) → c ≡ calls.Truncate file size → is_truncating c ≡ true
 unfolding is_truncating
@@ -173,9 +222,9 @@ both_ways chunk = omega arith
 
 -- ---- one more call
 
-module _ (files ranges : ℕ) (plain : Bool) (guest : ℕ) (first : ℕ → First) (from : ℕ → ℕ) (s t : Stand) (h k : Holds) (cs : List Call) (ls : List Numbered) (c : Call)
-    (own : s.files.guest ≡ guest) (count : range_count s.map ≡ ranges) (firsts : (f : ℕ) → first_at s.files f ≡ first f) (sizes : KeepsSizes s.files) (rest : LeavesRest s t) (are : AreCalls files ranges plain cs) (has : HasHolds s h)
-    (follows : IsFollowed cs ls h) (made : slice_get cs (length ls) ≡ Some c) (run : IsRunFrom guest ranges first from (history_at s.files) (log_at s.map) cs ls) where
+module _ (files ranges : ℕ) (guest : ℕ) (first : ℕ → First) (from : ℕ → ℕ) (s t : Stand) (h k : Holds) (cs : List Call) (ls : List Numbered) (c : Call)
+    (own : s.files.guest ≡ guest) (honest : s.wire.honest ≡ true) (count : range_count s.map ≡ ranges) (firsts : (f : ℕ) → first_at s.files f ≡ first f) (sizes : KeepsSizes s.files) (rest : LeavesRest s t) (are : AreCalls files ranges cs) (has : HasHolds s h)
+    (follows : IsFollowed cs ls h) (made : slice_get cs (length ls) ≡ Some c) (run : IsRunFrom guest ranges first from (history_at s.files) (log_at s.map) (notes_at s.files) cs ls) where
   abbrev the_line : Line → Numbered
   the_line l = record { call = length ls; line = l }
 
@@ -184,7 +233,7 @@ module _ (files ranges : ℕ) (plain : Bool) (guest : ℕ) (first : ℕ → Firs
       → FitsWay ranges (first to.file) (history_at t.files to.file) (log_at t.map to.file) (IsSeenBefore cs ls to.file (length ls)) d.place to.op way
   by_itself to d way came =
       let f = to.file in
-      let low : (p : ℕ) → length (history_at s.files f) ≤ p → IsSeenBefore cs ls f (length ls) p = λ p le m q lt placed. (let below = seen_all guest ranges first from (history_at s.files) (log_at s.map) cs ls f (length ls) run m q lt placed in omega (arith, below, le)) in
+      let low : (p : ℕ) → length (history_at s.files f) ≤ p → IsSeenBefore cs ls f (length ls) p = λ p le m q lt placed. (let below = seen_all guest ranges first from (history_at s.files) (log_at s.map) (notes_at s.files) cs ls f (length ls) run m q lt placed in omega (arith, below, le)) in
       subst (λ (z : ℕ × First). FitsWay z.0 z.1 (history_at t.files f) (log_at t.map f) (IsSeenBefore cs ls f (length ls)) d.place to.op way) (λ i. (count i, (rest.files.firsts f ∙ firsts f) i))
       (fits (KeepsSizes s.files) (range_count s.map) (log_at t.map f) (file_at s.files f) (file_at t.files f) (IsSeenBefore cs ls f (length ls)) to.op d.place way low sizes came)
 
@@ -209,7 +258,7 @@ module _ (files ranges : ℕ) (plain : Bool) (guest : ℕ) (first : ℕ → Firs
         within = subst (λ (y : Granted). end_of to.op ≤ y.end) same x.within;
       }
 
-  came_so : (d : Call) (to : Asked) (x : Done) (way : Way) → Asks h d to → IsCall files ranges plain cs (length ls) d → CameFrom s h to x way t (hold_in d) → Came ranges (first to.file) (history_at t.files to.file) (log_at t.map to.file) cs ls (length ls) (hold_in d) x.place to way
+  came_so : (d : Call) (to : Asked) (x : Done) (way : Way) → Asks h d to → IsCall files ranges cs (length ls) d → CameFrom s h to x way t (hold_in d) → Came ranges (first to.file) (history_at t.files to.file) (log_at t.map to.file) cs ls (length ls) (hold_in d) x.place to way
   unfolding Asks IsCall CameFrom Came CoversOp hold_in
   came_so (calls.Read file off len) to x way e is came = by_itself to x way came
   came_so (calls.Write file off xs) to x way e is came = by_itself to x way came
@@ -228,7 +277,25 @@ module _ (files ranges : ℕ) (plain : Bool) (guest : ℕ) (first : ℕ → Firs
   theirs : (more : List Entry) → All (λ e. e.guest ≢ s.files.guest) more → All (λ e. e.guest ≢ guest) more
   theirs more others = subst (λ (g : ℕ). All (λ e. e.guest ≢ g) more) own others
 
-  made_run : (d : Done) → IsMade s h (length ls) c d t → IsRunFrom guest ranges first from (history_at t.files) (log_at t.map) cs (ls ++ the_line (lines.Done d.place d.answer) ∷ [])
+  -- the notes of a file that a call is done in are settled right before its entry, and those of the others stay
+  notes_before : (d : Done) (m : IsMade s h (length ls) c d t) (g : ℕ) → NotesGoOn (first g) (with_history (history_at s.files) m.to.file (history_at s.files m.to.file ++ m.directs.done.more) g) (notes_at s.files g) (without_notes (notes_at t.files) m.to.file g)
+  notes_before d m g =
+      let f = m.to.file in
+      let y = m.directs.done in
+      let past = history_at s.files f ++ y.more in
+      let mid = with_history (history_at s.files) f past in
+      let its = without_notes (notes_at t.files) f in
+      dite (ℕ_discrete g f)
+      (λ e. subst (λ (x : ℕ). NotesGoOn (first x) (mid x) (notes_at s.files x) (its x)) (sym e)
+      (subst (λ (hs : List Entry). NotesGoOn (first f) hs (notes_at s.files f) (its f)) (sym (at_file (history_at s.files) f past)) (λ k n at none.
+      let there = noted_there s.files f k n at in
+      let closed = m.directs.closes there.0 k n there.1 none in
+      let entry = the_entry s.files.guest (length ls) m.to.op m.way in
+      inr (fresh_before (first f) past entry n.lower closed.0 n.size (ap (λ (hs : List Entry). length hs) (sym y.history) ∙ closed.1)
+      (subst (λ (z : First × List Entry). IsFresh z.0 z.1 n.lower closed.0 n.size) (λ i. ((rest.files.firsts f ∙ firsts f) i, y.history i)) closed.2)))))
+      (λ apart. subst (λ (ns : List Note). NotesGoOn (first g) (mid g) (notes_at s.files g) ns) (sym (notes_else (notes_at t.files) f g apart ∙ same_noted s.files t.files g rest.files.plain (m.directs.others g apart))) (λ k n at none. inl at))
+
+  made_run : (d : Done) → IsMade s h (length ls) c d t → IsRunFrom guest ranges first from (history_at t.files) (log_at t.map) (notes_at t.files) cs (ls ++ the_line (lines.Done d.place d.answer) ∷ [])
   made_run d m =
       let f = m.to.file in
       let y = m.directs.done in
@@ -237,47 +304,72 @@ module _ (files ranges : ℕ) (plain : Bool) (guest : ℕ) (first : ℕ → Firs
       let here : mid f ≡ past = at_file (history_at s.files) f past in
       let place : d.place ≡ length (mid f) = y.place ∙ ap length (sym here) in
       let told : d.answer ≡ answer (bytes (first f) (mid f) (length (mid f))) m.to.op = y.answered ∙ (λ i. answer (bytes (firsts f i) (sym here i) (length (sym here i))) m.to.op) in
-      one_more guest ranges first from mid (history_at t.files) (log_at t.map) cs ls c m.to m.way (the_line (lines.Done d.place d.answer)) made
-      (seen_on guest ranges first from (history_at s.files) mid (log_at s.map) (log_at t.map) cs ls (goes_one guest (history_at s.files) f y.more (theirs y.more y.others)) rest.map.logs run)
+      let its = without_notes (notes_at t.files) f in
+      noted_by guest ranges first from (history_at t.files) (log_at t.map) its (notes_at t.files) cs (ls ++ the_line (lines.Done d.place d.answer) ∷ []) (notes_among (notes_at t.files) f)
+      (one_more guest ranges first from mid (history_at t.files) (log_at t.map) its cs ls c m.to m.way (the_line (lines.Done d.place d.answer)) made
+      (seen_on guest ranges first from (history_at s.files) mid (log_at s.map) (log_at t.map) (notes_at s.files) its cs ls (goes_one guest (history_at s.files) f y.more (theirs y.more y.others)) rest.map.logs (notes_before d m) run)
       (asks_so cs ls h c m.to follows m.asks)
       (subst (λ (p : ℕ). Came ranges (first f) (history_at t.files f) (log_at t.map f) cs ls (length ls) (hold_in c) p m.to m.way) place (came_so c m.to d m.way m.asks (are (length ls) c made) m.came))
       (y.history ∙ (λ i. sym here i ++ the_entry (own i) (length ls) m.to.op m.way ∷ []))
       (λ g apart. ap (λ (v : FileView). v.history) (m.directs.others g apart) ∙ sym (at_other (history_at s.files) f g past apart))
-      (λ i. the_line (lines.Done (place i) (told i)))
+      (notes_gone (notes_at t.files) f)
+      (λ i. the_line (lines.Done (place i) (told i))))
 
   -- a line that has no place, and what others did
-  else_run : (l : Line) → OnlyOthers s.files t.files → IsElse ranges first (history_at t.files) (log_at t.map) cs ls (length ls) c (the_line l) → IsRunFrom guest ranges first from (history_at t.files) (log_at t.map) cs (ls ++ the_line l ∷ [])
-  else_run l others is = one_else guest ranges first from (history_at t.files) (log_at t.map) cs ls c (the_line l) made
-      (seen_on guest ranges first from (history_at s.files) (history_at t.files) (log_at s.map) (log_at t.map) cs ls (λ f. subst (λ (g : ℕ). GoesOn g (history_at s.files f) (history_at t.files f)) own (others f)) rest.map.logs run) is
+  else_run : (l : Line) → OnlyOthers s.files t.files → IsElse ranges first (history_at t.files) (log_at t.map) (notes_at t.files) cs ls (length ls) c (the_line l) → IsRunFrom guest ranges first from (history_at t.files) (log_at t.map) (notes_at t.files) cs (ls ++ the_line l ∷ [])
+  else_run l others is = one_else guest ranges first from (history_at t.files) (log_at t.map) (notes_at t.files) cs ls c (the_line l) made
+      (seen_on guest ranges first from (history_at s.files) (history_at t.files) (log_at s.map) (log_at t.map) (notes_at s.files) (notes_at t.files) cs ls (λ f. subst (λ (g : ℕ). GoesOn g (history_at s.files f) (history_at t.files f)) own (others f).0) rest.map.logs
+      (λ f. notes_go_on s.files t.files (first f) f rest.files.plain (rest.files.firsts f ∙ firsts f) (others f).1) run) is
 
-  held_run : (held : Held) → IsHeldNow s h c held t k → IsRunFrom guest ranges first from (history_at t.files) (log_at t.map) cs (ls ++ the_line (lines.Held held.end held.through) ∷ [])
+  -- the size of a plain board's file is the file's
+  was_held : (held : Held) (x : IsHeldNow s h c held t k) → s.files.plain ≡ true → WasSize (first x.file) (history_at t.files x.file) cs ls x.file (length ls) x.granted.noted
   unfolding bytes_now
-  held_run held x =
+  was_held held x plain =
       let a = x.granted in
       let f = x.file in
       let seen = length (history_at s.files f) in
-      let more = x.others f in
+      let more = (x.others f).0 in
       let longer : length (history_at t.files f) ≡ length (history_at s.files f ++ more.0) = ap (λ (xs : List Entry). length xs) more.1 in
       let same : size (first f) (history_at t.files f) seen ≡ a.noted = ap (λ (xs : List Entry). size (first f) xs seen) more.1
-      ∙ (size_front (first f) (history_at s.files f) more.0 seen (omega arith) ∙ (ap (λ (y : First). size y (history_at s.files f) seen) (sym (firsts f)) ∙ sym (a.plain x.plain))) in
-      let end : held.end ≡ min ((x.chunk + 1) * chunk_size) (size (first f) (history_at t.files f) seen) = a.lesser ∙ (λ i. min (both_ways x.chunk i) (sym same i)) in
-      else_run (lines.Held held.end held.through) x.others (inl (granted_next guest ranges first from (history_at s.files) (history_at t.files) (log_at s.map) (log_at t.map) cs ls c (record { file = f; chunk = x.chunk; mode = x.mode }) held.end held.through seen run
-      (hold_wants c f x.chunk x.mode x.asks) a.live (omega arith) (omega (arith, longer, length-append (history_at s.files f) more.0)) end))
+      ∙ (size_front (first f) (history_at s.files f) more.0 seen (omega arith) ∙ (ap (λ (y : First). size y (history_at s.files f) seen) (sym (firsts f)) ∙ sym (a.plain plain))) in
+      was_next guest ranges first from (history_at s.files) (history_at t.files) (log_at s.map) (notes_at s.files) cs ls f seen a.noted run (omega arith) (omega (arith, longer, length-append (history_at s.files f) more.0)) (sym same)
 
-  told_run : (l : Line) → Tells s h (length ls) c l t k → IsRunFrom guest ranges first from (history_at t.files) (log_at t.map) cs (ls ++ the_line l ∷ [])
+  -- that of a shared board's is noted
+  noted_held : (held : Held) (x : IsHeldNow s h c held t k) → s.files.plain ≡ false → IsNotedSize (notes_at t.files x.file) cs ls x.file (length ls) x.granted.noted
+  noted_held held x shared =
+      let a = x.granted in
+      let f = x.file in
+      let lower = length (history_at s.files f) in
+      let noted = a.open_note honest (sizes shared) in
+      noted_next guest ranges first from (history_at s.files) (log_at s.map) (notes_at s.files) cs ls f a.noted noted.0 (record { size = a.noted; lower = lower; upper = None }) (notes_at t.files f) run
+      (ap (λ (ns : List Note). slice_get ns noted.0) (shared_notes t.files f (rest.files.plain ∙ shared)) ∙ noted.1) refl refl (omega arith)
+
+  held_run : (held : Held) → IsHeldNow s h c held t k → IsRunFrom guest ranges first from (history_at t.files) (log_at t.map) (notes_at t.files) cs (ls ++ the_line (lines.Held held.end held.through) ∷ [])
+  held_run held x =
+      let a = x.granted in
+      let f = x.file in
+      let end : held.end ≡ min ((x.chunk + 1) * chunk_size) a.noted = a.lesser ∙ (λ i. min (both_ways x.chunk i) a.noted) in
+      else_run (lines.Held held.end held.through) x.others (inl (granted_next first (history_at t.files) (log_at t.map) (notes_at t.files) cs ls c (record { file = f; chunk = x.chunk; mode = x.mode }) held.end held.through a.noted
+      (hold_wants c f x.chunk x.mode x.asks) a.live (sized s.files.plain refl) end))
+    where
+      sized : (plain : Bool) → s.files.plain ≡ plain → WasSize (first x.file) (history_at t.files x.file) cs ls x.file (length ls) x.granted.noted ⊎ IsNotedSize (notes_at t.files x.file) cs ls x.file (length ls) x.granted.noted
+      sized true e = inl (was_held held x e)
+      sized false e = inr (noted_held held x e)
+
+  told_run : (l : Line) → Tells s h (length ls) c l t k → IsRunFrom guest ranges first from (history_at t.files) (log_at t.map) (notes_at t.files) cs (ls ++ the_line l ∷ [])
   unfolding Tells
   told_run (lines.Done place answer) x = made_run (record { place = place; answer = answer }) x.0
   told_run (lines.Held end through) x = held_run (record { end = end; through = through }) x
   told_run lines.Released x = else_run lines.Released x.others (inr (inl (record { hold = x.hold; grant = grant_for x.granted; gives = x.asks; line = refl; had = (follows.each x.hold x.granted x.had).had })))
   told_run (lines.Busy letters) x = else_run (lines.Busy letters) x.others (inr (inr (inl (record { letters = letters; takes = x.takes; line = refl; some = subst (λ (r : ℕ). 0 < r) count x.some; each = x.each ∙ count }))))
   told_run (lines.Leased number) x = else_run (lines.Leased number) x.others (inr (inr (inr (inl (record { count = number; truncates = truncates c x.file x.size x.asks; line = refl; some = x.some })))))
-  told_run lines.NoHold x = else_run lines.NoHold x.others (inr (inr (inr (inr (inl (record { hold = x.hold; uses = x.uses; line = refl; asked = asked_before files ranges plain cs (length ls) x.hold c x.uses (are (length ls) c made); none = follows.none x.hold x.none }))))))
+  told_run lines.NoHold x = else_run lines.NoHold x.others (inr (inr (inr (inr (inl (record { hold = x.hold; uses = x.uses; line = refl; asked = asked_before files ranges cs (length ls) x.hold c x.uses (are (length ls) c made); none = follows.none x.hold x.none }))))))
   told_run (lines.Past end) x = else_run (lines.Past end) x.others (inr (inr (inr (inr (inr (record { hold = x.hold; grant = grant_for x.granted; to = x.to; uses = x.uses; asks = asks_so cs ls h c x.to follows x.asks; line = ap (λ (z : ℕ). the_line (lines.Past z)) x.end; had = (follows.each x.hold x.granted x.had).had; past = x.past }))))))
 
 -- whatever the line of the next call tells, the run goes on by it
-pub step_run : (files ranges : ℕ) (plain : Bool) (guest : ℕ) (first : ℕ → First) (from : ℕ → ℕ) (s t : Stand) (h k : Holds) (cs : List Call) (ls : List Numbered) (n : ℕ) (c : Call) (l : Line)
-    → s.files.guest ≡ guest → range_count s.map ≡ ranges → ((f : ℕ) → first_at s.files f ≡ first f) → KeepsSizes s.files → LeavesRest s t → AreCalls files ranges plain cs → HasHolds s h → IsFollowed cs ls h → n ≡ length ls → slice_get cs n ≡ Some c
-    → IsRunFrom guest ranges first from (history_at s.files) (log_at s.map) cs ls → Tells s h n c l t k → IsRunFrom guest ranges first from (history_at t.files) (log_at t.map) cs (ls ++ record { call = n; line = l } ∷ [])
-step_run files ranges plain guest first from s t h k cs ls n c l own count firsts sizes rest are has follows number =
-    subst (λ (m : ℕ). slice_get cs m ≡ Some c → IsRunFrom guest ranges first from (history_at s.files) (log_at s.map) cs ls → Tells s h m c l t k → IsRunFrom guest ranges first from (history_at t.files) (log_at t.map) cs (ls ++ record { call = m; line = l } ∷ [])) (sym number)
-    (λ made run x. told_run files ranges plain guest first from s t h k cs ls c own count firsts sizes rest are has follows made run l x)
+pub step_run : (files ranges : ℕ) (guest : ℕ) (first : ℕ → First) (from : ℕ → ℕ) (s t : Stand) (h k : Holds) (cs : List Call) (ls : List Numbered) (n : ℕ) (c : Call) (l : Line)
+    → s.files.guest ≡ guest → s.wire.honest ≡ true → range_count s.map ≡ ranges → ((f : ℕ) → first_at s.files f ≡ first f) → KeepsSizes s.files → LeavesRest s t → AreCalls files ranges cs → HasHolds s h → IsFollowed cs ls h → n ≡ length ls → slice_get cs n ≡ Some c
+    → IsRunFrom guest ranges first from (history_at s.files) (log_at s.map) (notes_at s.files) cs ls → Tells s h n c l t k → IsRunFrom guest ranges first from (history_at t.files) (log_at t.map) (notes_at t.files) cs (ls ++ record { call = n; line = l } ∷ [])
+step_run files ranges guest first from s t h k cs ls n c l own honest count firsts sizes rest are has follows number =
+    subst (λ (m : ℕ). slice_get cs m ≡ Some c → IsRunFrom guest ranges first from (history_at s.files) (log_at s.map) (notes_at s.files) cs ls → Tells s h m c l t k → IsRunFrom guest ranges first from (history_at t.files) (log_at t.map) (notes_at t.files) cs (ls ++ record { call = m; line = l } ∷ [])) (sym number)
+    (λ made run x. told_run files ranges guest first from s t h k cs ls c own honest count firsts sizes rest are has follows made run l x)

@@ -2,6 +2,7 @@
 use Rattle.std.proofs.Common.{◌≡◌, ◌≢◌, ◌∙◌, ap, sym, subst, refl, ℕ, zero, suc, ◌+◌, ◌<◌, Bool, true, false, true≢false, List, [], ◌∷◌, length, slice_get, take, Option, Some, None, arith, inl, inr, if◌then◌else◌}
 use Rattle.plain_file.specs.declared.operations.Entry.{Entry}
 use Rattle.plain_file.specs.declared.operations.First.{First}
+use Rattle.plain_file.specs.Board.{Note}
 use Rattle.page_map.specs.declared.ranges.LogEntry.{LogEntry}
 use Rattle.plain_text.specs.Options.{◌>>=◌}
 use Rattle.dax_script.specs.Asks.{is_hold, hold_places, place_of_hold, held_by, held_of}
@@ -88,18 +89,18 @@ module _ (cs : List Call) (none : hold_places 0 cs ≡ []) where
     bars n count (calls.Store hold off xs) l at at' is e = true≢false (sym is)
     bars n count (calls.Release hold) l at at' is e = true≢false (sym is)
 
-    told_done : (guest : ℕ) (first : ℕ → First) (h : ℕ → List Entry) (n : ℕ) (c : Call) (l : Numbered) → slice_get cs n ≡ Some c → slice_get ls n ≡ Some l → IsTold guest ranges first h logs cs ls n c l → is_done_line l.line ≡ true
+    told_done : (guest : ℕ) (first : ℕ → First) (h : ℕ → List Entry) (notes : ℕ → List Note) (n : ℕ) (c : Call) (l : Numbered) → slice_get cs n ≡ Some c → slice_get ls n ≡ Some l → IsTold guest ranges first h logs notes cs ls n c l → is_done_line l.line ≡ true
     unfolding is_done_line
-    told_done guest first h n c l at at' (inl d) = ap (λ (x : Numbered). is_done_line x.line) d.line
-    told_done guest first h n c l at at' (inr (inl g)) = absurd (true≢false (sym (held_is_hold c g.held g.asks) ∙ no_hold 0 cs n c none at))
-    told_done guest first h n c l at at' (inr (inr (inl g))) = absurd (none_is g.grant (sym (not_had ls g.hold n) ∙ g.had))
-    told_done guest first h n c l at at' (inr (inr (inr (inl b)))) = absurd (not_stuck n c l at at' b)
-    told_done guest first h n c l at at' (inr (inr (inr (inr (inl b))))) = absurd (bars n b.count c l at at' b.truncates (ap (λ (x : Numbered). x.line) b.line))
-    told_done guest first h n c l at at' (inr (inr (inr (inr (inr (inl b)))))) = absurd (none_is b.asked.at (sym (nowhere b.hold) ∙ b.asked.place))
-    told_done guest first h n c l at at' (inr (inr (inr (inr (inr (inr b)))))) = absurd (none_is b.grant (sym (not_had ls b.hold n) ∙ b.had))
+    told_done guest first h notes n c l at at' (inl d) = ap (λ (x : Numbered). is_done_line x.line) d.line
+    told_done guest first h notes n c l at at' (inr (inl g)) = absurd (true≢false (sym (held_is_hold c g.held g.asks) ∙ no_hold 0 cs n c none at))
+    told_done guest first h notes n c l at at' (inr (inr (inl g))) = absurd (none_is g.grant (sym (not_had ls g.hold n) ∙ g.had))
+    told_done guest first h notes n c l at at' (inr (inr (inr (inl b)))) = absurd (not_stuck n c l at at' b)
+    told_done guest first h notes n c l at at' (inr (inr (inr (inr (inl b))))) = absurd (bars n b.count c l at at' b.truncates (ap (λ (x : Numbered). x.line) b.line))
+    told_done guest first h notes n c l at at' (inr (inr (inr (inr (inr (inl b)))))) = absurd (none_is b.asked.at (sym (nowhere b.hold) ∙ b.asked.place))
+    told_done guest first h notes n c l at at' (inr (inr (inr (inr (inr (inr b)))))) = absurd (none_is b.grant (sym (not_had ls b.hold n) ∙ b.had))
 
 -- each call is done
-pub unheld_done : (guest ranges : ℕ) (first : ℕ → First) (from : ℕ → ℕ) (h : ℕ → List Entry) (logs : ℕ → List LogEntry) (cs : List Call) (ls : List Numbered) → IsRunFrom guest ranges first from h logs cs ls → length ls ≡ length cs → IsFair ranges logs cs ls → ranges ≢ 1 → hold_places 0 cs ≡ [] → AllDone ls
-unheld_done guest ranges first from h logs cs ls run count fair more none n l at =
+pub unheld_done : (guest ranges : ℕ) (first : ℕ → First) (from : ℕ → ℕ) (h : ℕ → List Entry) (logs : ℕ → List LogEntry) (notes : ℕ → List Note) (cs : List Call) (ls : List Numbered) → IsRunFrom guest ranges first from h logs notes cs ls → length ls ≡ length cs → IsFair ranges logs cs ls → ranges ≢ 1 → hold_places 0 cs ≡ [] → AllDone ls
+unheld_done guest ranges first from h logs notes cs ls run count fair more none n l at =
     let c = found cs n (let w = within ls n l at in omega (arith, w, count)) in
-    told_done cs none ranges logs ls fair more guest first h n c.0 l c.1 at (run.told n c.0 l c.1 at)
+    told_done cs none ranges logs ls fair more guest first h notes n c.0 l c.1 at (run.told n c.0 l c.1 at)

@@ -9,6 +9,8 @@ use Rattle.plain_file.specs.declared.operations.Way.{Way}
 use Rattle.plain_file.specs.declared.operations.Way.TheVariants as ways
 use Rattle.plain_file.specs.File.{answer}
 use Rattle.plain_file.specs.History.{bytes, size}
+use Rattle.plain_file.specs.Board.{Note}
+use Rattle.plain_file.specs.Sound.{IsFresh}
 use Rattle.page_map.specs.declared.ranges.LogEntry.{LogEntry}
 use Rattle.page_map.specs.Logs.{is_writable}
 use Rattle.range_tree.specs.Logs.{is_live, unsound_at}
@@ -137,19 +139,35 @@ pub record IsDone (guest ranges : ℕ) (first : ℕ → First) (h : ℕ → List
   pub entry : slice_get (h to.file) place ≡ Some (the_entry guest n to.op way)
   pub came : Came ranges (first to.file) (h to.file) (logs to.file) cs ls n (hold_in c) place to way
 
--- It says that a hold is granted, through a live placement of its chunk. Its end is the lesser of the chunk's end and a size that was the file's at a length that the guest hadn't passed before, and not passed since.
-pub record IsGranted (first : ℕ → First) (h : ℕ → List Entry) (logs : ℕ → List LogEntry) (cs : List Call) (ls : List Numbered) (n : ℕ) (c : Call) (l : Numbered) : Type 0 where
+-- The size was the file's at a length that the guest hadn't passed before its n-th call, and not passed since.
+pub record WasSize (first : First) (h : List Entry) (cs : List Call) (ls : List Numbered) (f n z : ℕ) : Type 0 where
+  pub seen : ℕ
+  pub since : IsSeenBefore cs ls f n seen
+  pub until : IsSeenUntil cs ls f n seen
+  pub known : seen ≤ length h
+  pub is : z ≡ size first h seen
+
+-- The size is one of those that were noted of the file, at a length that the guest hadn't passed before its n-th call. It has no upper end yet, and no later call of the guest is done in the file.
+pub record IsNotedSize (notes : List Note) (cs : List Call) (ls : List Numbered) (f n z : ℕ) : Type 0 where
+  pub at : ℕ
+  pub note : Note
+  pub noted : slice_get notes at ≡ Some note
+  pub size : note.size ≡ z
+  pub upper : note.upper ≡ None
+  pub since : IsSeenBefore cs ls f n note.lower
+  pub last : (m p : ℕ) → n < m → IsPlaced cs ls f m p → ⊥
+
+-- It says that a hold is granted, through a live placement of its chunk. Its end is the lesser of the chunk's end and a size that was the file's meanwhile, or is noted so.
+pub record IsGranted (first : ℕ → First) (h : ℕ → List Entry) (logs : ℕ → List LogEntry) (notes : ℕ → List Note) (cs : List Call) (ls : List Numbered) (n : ℕ) (c : Call) (l : Numbered) : Type 0 where
   pub held : Held
   pub through : Through
   pub end : ℕ
   pub asks : held_of c ≡ Some held
   pub line : l ≡ record { call = n; line = lines.Held end through }
   pub live : is_live (is_writable held.mode) (logs held.file) held.chunk through.entry through.upto ≡ true
-  pub seen : ℕ
-  pub since : IsSeenBefore cs ls held.file n seen
-  pub until : IsSeenUntil cs ls held.file n seen
-  pub known : seen ≤ length (h held.file)
-  pub lesser : end ≡ min ((held.chunk + 1) * chunk_size) (size (first held.file) (h held.file) seen)
+  pub size : ℕ
+  pub sized : WasSize (first held.file) (h held.file) cs ls held.file n size ⊎ IsNotedSize (notes held.file) cs ls held.file n size
+  pub lesser : end ≡ min ((held.chunk + 1) * chunk_size) size
 
 -- it says that a hold that the guest had is given back
 pub record IsGivenBack (cs : List Call) (ls : List Numbered) (n : ℕ) (c : Call) (l : Numbered) : Type 0 where
@@ -197,8 +215,8 @@ pub record IsPast (cs : List Call) (ls : List Numbered) (n : ℕ) (c : Call) (l 
 abbrev pub IsNotDone : ℕ → List Call → List Numbered → ℕ → Call → Numbered → Type 0
 IsNotDone ranges cs ls n c l = IsBlocked ranges n c l ⊎ (IsLeased n c l ⊎ (IsWithoutHold cs ls n c l ⊎ IsPast cs ls n c l))
 
-abbrev pub IsTold : ℕ → ℕ → (ℕ → First) → (ℕ → List Entry) → (ℕ → List LogEntry) → List Call → List Numbered → ℕ → Call → Numbered → Type 0
-IsTold guest ranges first h logs cs ls n c l = IsDone guest ranges first h logs cs ls n c l ⊎ (IsGranted first h logs cs ls n c l ⊎ (IsGivenBack cs ls n c l ⊎ IsNotDone ranges cs ls n c l))
+abbrev pub IsTold : ℕ → ℕ → (ℕ → First) → (ℕ → List Entry) → (ℕ → List LogEntry) → (ℕ → List Note) → List Call → List Numbered → ℕ → Call → Numbered → Type 0
+IsTold guest ranges first h logs notes cs ls n c l = IsDone guest ranges first h logs cs ls n c l ⊎ (IsGranted first h logs notes cs ls n c l ⊎ (IsGivenBack cs ls n c l ⊎ IsNotDone ranges cs ls n c l))
 
 -- an entry of the guest is that of a call on its file, whose line has its place
 pub record IsOf (guest : ℕ) (cs : List Call) (ls : List Numbered) (f p : ℕ) (e : Entry) : Type 0 where
@@ -210,19 +228,23 @@ pub record IsOf (guest : ℕ) (cs : List Call) (ls : List Numbered) (f p : ℕ) 
   pub told : slice_get ls e.call ≡ Some line
   pub place : place_of line.line ≡ Some p
 
--- the lines of the guest's first calls; no entries of the guest but theirs, in each file from this place on; places rise in each file
-pub record IsRunFrom (guest ranges : ℕ) (first : ℕ → First) (from : ℕ → ℕ) (h : ℕ → List Entry) (logs : ℕ → List LogEntry) (cs : List Call) (ls : List Numbered) : Type 0 where
-  pub told : (n : ℕ) (c : Call) (l : Numbered) → slice_get cs n ≡ Some c → slice_get ls n ≡ Some l → IsTold guest ranges first h logs cs ls n c l
+-- the lines of the guest's first calls, where these sizes are noted; no entries of the guest but theirs, in each file from this place on; places rise in each file
+pub record IsRunFrom (guest ranges : ℕ) (first : ℕ → First) (from : ℕ → ℕ) (h : ℕ → List Entry) (logs : ℕ → List LogEntry) (notes : ℕ → List Note) (cs : List Call) (ls : List Numbered) : Type 0 where
+  pub told : (n : ℕ) (c : Call) (l : Numbered) → slice_get cs n ≡ Some c → slice_get ls n ≡ Some l → IsTold guest ranges first h logs notes cs ls n c l
   pub only : (f p : ℕ) (e : Entry) → from f ≤ p → slice_get (h f) p ≡ Some e → e.guest ≡ guest → IsOf guest cs ls f p e
   pub rising : (f n m p q : ℕ) → n < m → IsPlaced cs ls f n p → IsPlaced cs ls f m q → p < q
 
--- from the files' beginnings on
+-- from the files' beginnings on, with no size that is only noted
 abbrev pub IsRun : ℕ → ℕ → (ℕ → First) → (ℕ → List Entry) → (ℕ → List LogEntry) → List Call → List Numbered → Type 0
-IsRun guest ranges first h logs cs ls = IsRunFrom guest ranges first (λ f. 0) h logs cs ls
+IsRun guest ranges first h logs cs ls = IsRunFrom guest ranges first (λ f. 0) h logs (λ f. []) cs ls
 
 -- the history goes on by entries of others
 abbrev pub GoesOn : ℕ → List Entry → List Entry → Type 0
 GoesOn guest h h' = (rest : List Entry) × (h' ≡ h ++ rest) × ((p : ℕ) (e : Entry) → slice_get h' p ≡ Some e → e.guest ≡ guest → p < length h)
+
+-- each size that is noted of a file, and has no upper end, is noted so still, or was the file's between its lower end and the end of the history
+abbrev pub NotesGoOn : First → List Entry → List Note → List Note → Type 0
+NotesGoOn first h notes notes' = (k : ℕ) (n : Note) → slice_get notes k ≡ Some n → n.upper ≡ None → (slice_get notes' k ≡ Some n) ⊎ IsFresh first h n.lower (length h) n.size
 
 -- the log goes on
 abbrev pub LogGoesOn : List LogEntry → List LogEntry → Type 0

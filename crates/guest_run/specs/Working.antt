@@ -1,5 +1,5 @@
 -- The calls that a worker makes, what they rest on, and what comes of each.
-use Rattle.std.specs.Prelude.{◌≡◌, ◌≢◌, ◌⊎◌, ℕ, zero, suc, ◌+◌, ◌<◌, ◌≤◌, ◌==◌, ◌&&◌, Bool, true, false, List, length, replicate, slice_get, take, Option, Some, None, IfSome, is_some, Result, Ok, Err, if◌then◌else◌}
+use Rattle.std.specs.Prelude.{◌≡◌, ◌≢◌, ◌⊎◌, ℕ, zero, suc, ◌+◌, ◌<◌, ◌≤◌, ◌==◌, ◌&&◌, Bool, true, false, List, [], length, replicate, slice_get, take, Option, Some, None, IfSome, is_some, Result, Ok, Err, if◌then◌else◌}
 use Rattle.plain_file.specs.declared.operations.Entry.{Entry}
 use Rattle.plain_file.specs.declared.operations.First.{First}
 use Rattle.plain_file.specs.declared.operations.Op.{Op}
@@ -8,7 +8,7 @@ use Rattle.plain_file.specs.declared.operations.Way.{Way}
 use Rattle.plain_file.specs.declared.operations.Way.TheVariants as ways
 use Rattle.plain_file.specs.File.{max_file}
 use Rattle.plain_file.specs.Limits.{max_transfer}
-use Rattle.plain_file.specs.Board.{FileView, BoardView, file_at}
+use Rattle.plain_file.specs.Board.{Note, FileView, BoardView, file_at}
 use Rattle.plain_file.specs.Turns.{leases_on}
 use Rattle.page_map.specs.declared.ranges.LogEntry.{LogEntry}
 use Rattle.page_map.specs.declared.pages.Mode.{Mode}
@@ -38,6 +38,7 @@ use Rattle.guest_io.specs.declared.calls.Refusal.TheVariants as refusals
 use Rattle.guest_io.specs.declared.guest.Granted.{Granted}
 use Rattle.guest_io.specs.declared.guest.Holds.{Holds}
 use Rattle.guest_io.specs.Calls.{Directs, first_chunk, last_chunk}
+use Rattle.guest_io.specs.Notes.{KeepsNotes}
 use Rattle.guest_io.specs.Requests.{IsHome}
 use Rattle.guest_io.specs.Ways.{IsReadWay, IsWriteWay}
 use Rattle.guest_io.specs.Going.{KeepsSizes}
@@ -61,20 +62,20 @@ pub record IsForWriting (cs : List Call) (hold : ℕ) : Type 0 where
   pub by : held_by cs hold ≡ Some held
   pub mode : held.mode ≡ modes.W
 
--- The n-th call of a guest is on one of so many files, within the limits. A hold is asked for where there are ranges, over a plain board; a call through a hold follows it.
-unfoldable pub IsCall : ℕ → ℕ → Bool → List Call → ℕ → Call → Type 0
-IsCall files ranges plain cs n (calls.Read file off len) = (file < files) × IsMoved len × (off + len ≤ max_file)
-IsCall files ranges plain cs n (calls.Write file off bytes) = (file < files) × IsMoved (length bytes) × (off + length bytes ≤ max_file)
-IsCall files ranges plain cs n (calls.Fill file off len byte) = (file < files) × IsMoved len × (off + len ≤ max_file)
-IsCall files ranges plain cs n (calls.Size file) = file < files
-IsCall files ranges plain cs n (calls.Truncate file size) = (file < files) × (size ≤ max_file)
-IsCall files ranges plain cs n (calls.Hold file chunk mode) = (file < files) × (chunk < max_chunks) × (0 < ranges) × (plain ≡ true) × (length (hold_places 0 (take n cs)) < max_holds)
-IsCall files ranges plain cs n (calls.Load hold off len) = IsOfHold cs n hold × IsMoved len × (off + len ≤ range_size)
-IsCall files ranges plain cs n (calls.Store hold off bytes) = IsOfHold cs n hold × IsForWriting cs hold × IsMoved (length bytes) × (off + length bytes ≤ range_size)
-IsCall files ranges plain cs n (calls.Release hold) = IsOfHold cs n hold
+-- The n-th call of a guest is on one of so many files, within the limits. A hold is asked for where there are ranges; a call through a hold follows it.
+unfoldable pub IsCall : ℕ → ℕ → List Call → ℕ → Call → Type 0
+IsCall files ranges cs n (calls.Read file off len) = (file < files) × IsMoved len × (off + len ≤ max_file)
+IsCall files ranges cs n (calls.Write file off bytes) = (file < files) × IsMoved (length bytes) × (off + length bytes ≤ max_file)
+IsCall files ranges cs n (calls.Fill file off len byte) = (file < files) × IsMoved len × (off + len ≤ max_file)
+IsCall files ranges cs n (calls.Size file) = file < files
+IsCall files ranges cs n (calls.Truncate file size) = (file < files) × (size ≤ max_file)
+IsCall files ranges cs n (calls.Hold file chunk mode) = (file < files) × (chunk < max_chunks) × (0 < ranges) × (length (hold_places 0 (take n cs)) < max_holds)
+IsCall files ranges cs n (calls.Load hold off len) = IsOfHold cs n hold × IsMoved len × (off + len ≤ range_size)
+IsCall files ranges cs n (calls.Store hold off bytes) = IsOfHold cs n hold × IsForWriting cs hold × IsMoved (length bytes) × (off + length bytes ≤ range_size)
+IsCall files ranges cs n (calls.Release hold) = IsOfHold cs n hold
 
-abbrev pub AreCalls : ℕ → ℕ → Bool → List Call → Type 0
-AreCalls files ranges plain cs = (n : ℕ) (c : Call) → slice_get cs n ≡ Some c → IsCall files ranges plain cs n c
+abbrev pub AreCalls : ℕ → ℕ → List Call → Type 0
+AreCalls files ranges cs = (n : ℕ) (c : Call) → slice_get cs n ≡ Some c → IsCall files ranges cs n c
 
 -- the most calls of a guest
 abbrev pub max_calls : ℕ
@@ -89,16 +90,19 @@ pub record IsIdle (s : Stand) (refs : List FileRef) (h : Holds) : Type 0 where
   pub tree : s.map.hands.tree ≡ None
   pub moves : s.map.hands.moves ≡ None
   pub looks : NoLooks s.map
-  pub may_lease : s.files.may_lease ≡ true
+  pub may_lease : 0 < range_count s.map → s.files.may_lease ≡ true
   pub unbarred : s.files.hands.bar ≡ None
   pub holds : HasHolds s h
   pub sizes : KeepsSizes s.files
 
--- nobody else takes or pins ranges, of which there are none or more than one, and nobody else leases files
-pub record IsAlone (s : Stand) : Type 0 where
-  pub ranges : s.map.ranges.others ≡ false
+-- nobody else takes or pins ranges, of which there are none or more than one
+pub record TakesAlone (s : Stand) : Type 0 where
+  pub others : s.map.ranges.others ≡ false
   pub count : range_count s.map ≢ 1
-  pub files : s.files.others ≡ false
+
+-- nobody else leases files
+abbrev pub LeasesAlone : Stand → Type 0
+LeasesAlone s = s.files.others ≡ false
 
 -- what a board has seen of each file, and of its placement log
 abbrev pub first_at : BoardView → ℕ → First
@@ -106,6 +110,10 @@ first_at v f = (file_at v f).first
 
 abbrev pub history_at : BoardView → ℕ → List Entry
 history_at v f = (file_at v f).history
+
+-- the sizes that it has noted; a plain board has no need of any
+abbrev pub notes_at : BoardView → ℕ → List Note
+notes_at v f = if v.plain then [] else (file_at v f).notes
 
 -- ---- what a guest's own holds keep from being done
 
@@ -180,10 +188,18 @@ pub record IsHeldUp (ranges : ℕ) (logs : ℕ → List LogEntry) (cs : List Cal
   pub needs : NeedsChunk c file chunk
   pub unheld : (hold : ℕ) (held : Wanted) (grant : Grant) → held_by cs hold ≡ Some held → Had cs (take n ls) n hold grant → held.file ≡ file → held.chunk ≢ chunk
 
--- the lines of a guest that is alone: a truncation is refused exactly for its own holds on the file, and where no range could be taken, its own holds have them
+-- a truncation is refused exactly for the guest's own holds on the file
+abbrev pub AreBarred : List Call → List Numbered → Type 0
+AreBarred cs ls = (n file size : ℕ) (l : Numbered) → slice_get cs n ≡ Some (calls.Truncate file size) → slice_get ls n ≡ Some l → IsBarredBy (holds_on cs ls file n) l.line
+
+-- where no range could be taken, the guest's own holds have them
+abbrev pub AreHeldUp : ℕ → (ℕ → List LogEntry) → List Call → List Numbered → Type 0
+AreHeldUp ranges logs cs ls = (n : ℕ) (c : Call) (l : Numbered) (letters : List ℕ) → slice_get cs n ≡ Some c → slice_get ls n ≡ Some l → l.line ≡ lines.Busy letters → IsHeldUp ranges logs cs ls n c letters
+
+-- the lines of a guest that is alone
 pub record IsFair (ranges : ℕ) (logs : ℕ → List LogEntry) (cs : List Call) (ls : List Numbered) : Type 0 where
-  pub barred : (n file size : ℕ) (l : Numbered) → slice_get cs n ≡ Some (calls.Truncate file size) → slice_get ls n ≡ Some l → IsBarredBy (holds_on cs ls file n) l.line
-  pub held_up : (n : ℕ) (c : Call) (l : Numbered) (letters : List ℕ) → slice_get cs n ≡ Some c → slice_get ls n ≡ Some l → l.line ≡ lines.Busy letters → IsHeldUp ranges logs cs ls n c letters
+  pub barred : AreBarred cs ls
+  pub held_up : AreHeldUp ranges logs cs ls
 
 -- ---- what comes of a call
 
@@ -222,9 +238,9 @@ Asks h (calls.Load hold off len) to = AsksThrough h hold (λ start. ops.Read (st
 Asks h (calls.Store hold off bytes) to = AsksThrough h hold (λ start. ops.Write (start + off) bytes) to
 Asks h (calls.Release hold) to = ⊥
 
--- no entry of the guest's is more, and others' entries may be seen
+-- no entry of the guest's is more; others' entries may be seen, and sizes that were noted may have got their upper ends
 abbrev pub OnlyOthers : BoardView → BoardView → Type 0
-OnlyOthers old new = (f : ℕ) → GoesOn old.guest (history_at old f) (history_at new f)
+OnlyOthers old new = (f : ℕ) → GoesOn old.guest (history_at old f) (history_at new f) × KeepsNotes (file_at old f) (file_at new f)
 
 -- The n-th call was done: others' entries came first, then its one entry. A truncation found no lease of the guest's own on its file.
 pub record IsMade (s : Stand) (h : Holds) (n : ℕ) (c : Call) (d : Done) (t : Stand) : Type 0 where
@@ -241,7 +257,6 @@ pub record IsHeldNow (s : Stand) (h : Holds) (c : Call) (held : Held) (t : Stand
   pub chunk : ℕ
   pub mode : Mode
   pub asks : c ≡ calls.Hold file chunk mode
-  pub plain : s.files.plain ≡ true
   pub granted : IsGranted s h file chunk mode held t k
   pub others : OnlyOthers s.files t.files
 
@@ -277,22 +292,22 @@ pub record IsFull (ranges : ℕ) (h : Holds) (c : Call) (letters : List ℕ) : T
   pub needs : NeedsChunk c file chunk
   pub unheld : (hold : ℕ) (g : Granted) → granted_at h hold ≡ Some g → g.file ≡ file → g.chunk ≢ chunk
 
--- no range could be taken; where the guest is alone, its own holds have them
+-- no range could be taken; where nobody else takes them, its own holds have them
 pub record IsStuck (s : Stand) (h : Holds) (c : Call) (letters : List ℕ) (t : Stand) (k : Holds) : Type 0 where
   pub takes : is_taking c ≡ true
   pub some : 0 < range_count s.map
   pub each : length letters ≡ range_count s.map
   pub others : OnlyOthers s.files t.files
   pub holds : k ≡ after_refusal c h
-  pub full : IsAlone s → IsFull (range_count s.map) h c letters
+  pub full : TakesAlone s → IsFull (range_count s.map) h c letters
 
--- a file is leased; where the guest is alone, by its own holds
+-- a file is leased; where nobody else leases files, by its own holds
 pub record IsLeasedNow (s : Stand) (h : Holds) (c : Call) (count : ℕ) (t : Stand) (k : Holds) : Type 0 where
   pub file : ℕ
   pub size : ℕ
   pub asks : c ≡ calls.Truncate file size
   pub some : 0 < count
-  pub own : IsAlone s → count ≡ leases_on s.files file
+  pub own : LeasesAlone s → count ≡ leases_on s.files file
   pub others : OnlyOthers s.files t.files
   pub holds : k ≡ h
 
@@ -336,7 +351,7 @@ CanMake s h files (calls.Write file off bytes) = (file < files) × IsMoved (leng
 CanMake s h files (calls.Fill file off len byte) = (file < files) × IsMoved len × (off + len ≤ max_file)
 CanMake s h files (calls.Size file) = file < files
 CanMake s h files (calls.Truncate file size) = (file < files) × (size ≤ max_file)
-CanMake s h files (calls.Hold file chunk mode) = (file < files) × (chunk < max_chunks) × (0 < range_count s.map) × (s.files.plain ≡ true) × (h.asked < max_holds)
+CanMake s h files (calls.Hold file chunk mode) = (file < files) × (chunk < max_chunks) × (0 < range_count s.map) × (h.asked < max_holds)
 CanMake s h files (calls.Load hold off len) = IsMoved len × (off + len ≤ range_size)
 CanMake s h files (calls.Store hold off bytes) = IfSome (granted_at h hold) (λ g. g.mode ≡ modes.W) × IsMoved (length bytes) × (off + length bytes ≤ range_size)
 CanMake s h files (calls.Release hold) = Unit {0}

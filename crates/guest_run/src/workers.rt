@@ -8,9 +8,10 @@ ghost use Rattle.guest_dax.specs.Stands.{stand};
 ghost use Rattle.guest_io.specs.Requests.{IsHome};
 ghost use Rattle.guest_io.specs.Holds.{HasHolds, LeavesRest};
 ghost use Rattle.guest_run.specs.Runs.{IsRunFrom};
-ghost use Rattle.guest_run.specs.Working.{IsIdle, IsAlone, CanMake, AreCalls, IsFair, max_calls, first_at, history_at, Tells, Comes, IsToldOf};
+ghost use Rattle.guest_run.specs.Working.{IsIdle, TakesAlone, LeasesAlone, CanMake, AreCalls, AreBarred, AreHeldUp, max_calls, first_at, history_at, notes_at, Tells, Comes, IsToldOf};
 ghost use Rattle.guest_run.specs.Telling.{HasFields};
 
+use crate::gates::{Gate, Point};
 use crate::lines::{done_line, held_line, line_of};
 use dax_script::Call;
 use guest_io::{Done, Guest, Refusal};
@@ -27,37 +28,46 @@ use transcript_text::{Line, Numbered};
 /// moving; that a file is leased, and how often; that a hold isn't granted; or that an access ends above its
 /// hold's end.
 ///
-/// The guest has asked for no hold yet. Where nobody else takes ranges or leases files, a truncation is refused
-/// exactly for its own holds on the file, and a call is told that no range could be taken only where its own
-/// holds have all of them, but perhaps one where its bytes lie in two chunks. `Memory` comes where an
+/// The guest has asked for no hold yet. Where nobody else leases files, a truncation is refused exactly for its
+/// own holds on the file. Where nobody else takes ranges, a call is told that no range could be taken only where
+/// its own holds have all of them, but perhaps one where its bytes lie in two chunks. Over a shared board the
+/// size by which a hold ends may be one that the board has noted, and that has no upper end yet. `Memory` comes where an
 /// allocation was refused; then some of the calls were made. It waits as the guest's calls do.
-pub fn worker<T: Wait, W, F: FileTurns, R: RangeBoard>(
+///
+/// The gate is told before each call, and after each that made its line, `number` as the guest's number and the
+/// call's number. It may wait there, and changes nothing. No clause says that it is called: a test does.
+pub fn worker<T: Wait, W, F: FileTurns, R: RangeBoard, G: Gate>(
     rt: &T,
     alloc: Global,
     guest: &mut Guest<W, F, R>,
     calls: &[Call],
+    number: u32,
+    gate: &G,
 ) -> Result<List<Numbered>, Memory>
 where
     W: Wire<F, R>,
     requires idle { IsIdle (stand (W.wire guest.old.dax.driver.wire) (F.board guest.old.dax.files) (R.map guest.old.dax.ranges)) guest.old.dax.refs guest.old.holds }
     requires fresh { guest.old.holds.asked ≡ 0 }
     requires few { length calls.now ≤ max_calls }
-    requires calls { AreCalls (length guest.old.dax.refs) (range_count (R.map guest.old.dax.ranges)) (F.board guest.old.dax.files).plain calls.now }
+    requires calls { AreCalls (length guest.old.dax.refs) (range_count (R.map guest.old.dax.ranges)) calls.now }
     ensures idle { IsIdle (stand (W.wire guest.new.dax.driver.wire) (F.board guest.new.dax.files) (R.map guest.new.dax.ranges)) guest.new.dax.refs guest.new.holds }
     ensures rest { LeavesRest (stand (W.wire guest.old.dax.driver.wire) (F.board guest.old.dax.files) (R.map guest.old.dax.ranges)) (stand (W.wire guest.new.dax.driver.wire) (F.board guest.new.dax.files) (R.map guest.new.dax.ranges)) }
-    ensures run { IfOk result (IsRunFrom (F.board guest.old.dax.files).guest (range_count (R.map guest.old.dax.ranges)) (first_at (F.board guest.old.dax.files)) (λ f. length (history_at (F.board guest.old.dax.files) f)) (history_at (F.board guest.new.dax.files)) (log_at (R.map guest.new.dax.ranges)) calls.now) }
+    ensures run { IfOk result (IsRunFrom (F.board guest.old.dax.files).guest (range_count (R.map guest.old.dax.ranges)) (first_at (F.board guest.old.dax.files)) (λ f. length (history_at (F.board guest.old.dax.files) f)) (history_at (F.board guest.new.dax.files)) (log_at (R.map guest.new.dax.ranges)) (notes_at (F.board guest.new.dax.files)) calls.now) }
     ensures count { IfOk result (λ lines. length lines ≡ length calls.now) }
-    ensures fair { IsAlone (stand (W.wire guest.old.dax.driver.wire) (F.board guest.old.dax.files) (R.map guest.old.dax.ranges)) → IfOk result (IsFair (range_count (R.map guest.old.dax.ranges)) (log_at (R.map guest.new.dax.ranges)) calls.now) }
+    ensures barred { LeasesAlone (stand (W.wire guest.old.dax.driver.wire) (F.board guest.old.dax.files) (R.map guest.old.dax.ranges)) → IfOk result (AreBarred calls.now) }
+    ensures held_up { TakesAlone (stand (W.wire guest.old.dax.driver.wire) (F.board guest.old.dax.files) (R.map guest.old.dax.ranges)) → IfOk result (AreHeldUp (range_count (R.map guest.old.dax.ranges)) (log_at (R.map guest.new.dax.ranges)) calls.now) }
     ensures printable { IfOk result (AllByRecursion IsPrintableNumbered) }
     ensures refs { guest.new.dax.refs ≡ guest.old.dax.refs }
 {
     let mut lines = List::from_vec(Vec::with_capacity(alloc, calls.len())?);
     let mut filling = Vec::new(alloc);
-    let mut number = 0;
+    let mut made = 0;
     for call in calls {
-        let line = make_call(rt, alloc, guest, number, call, &mut filling)?;
-        lines.push(Numbered { call: number, line })?;
-        number += 1;
+        gate.at(rt, number, made, Point::Before);
+        let line = make_call(rt, alloc, guest, made, call, &mut filling)?;
+        gate.at(rt, number, made, Point::After);
+        lines.push(Numbered { call: made, line })?;
+        made += 1;
     }
     Ok(lines)
 }

@@ -1,6 +1,5 @@
-use Rattle.std.proofs.Common.{◌∙◌, sym}
 use Rattle.daxrun.proofs.Playable.{playable}
 use Rattle.daxrun.proofs.play_tests.script_in.Goals as goal
 
 pub returns : goal.returns
-returns c = playable c.args.text.now c.in-Ok.script c.in-Ok.ensures.reads (sym c.is_carried_out.ensures ∙ c.if-not-is_carried_out.false)
+returns c = playable c.args.text.now c.in-Ok.script c.in-Ok.ensures.reads

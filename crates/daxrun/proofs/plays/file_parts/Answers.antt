@@ -1,27 +1,36 @@
 use Rattle.std.proofs.Common.{◌≡◌, ◌∙◌, ap, sym, subst, ℕ, ◌+◌, ◌<◌, ◌++◌, List, [], ◌∷◌, length, take, arith}
 use Rattle.std.specs.List.{AllByRecursion}
-use Rattle.page_map.specs.Board.{log_at}
 use Rattle.transcript_text.specs.declared.transcripts.FilePart.{FilePart}
 use Rattle.transcript_text.specs.TranscriptReading.{IsPrintableFile}
 use Rattle.guest_run.specs.Runs.{file_part, parts_from}
-use Rattle.guest_run.specs.Working.{history_at}
 use Rattle.guest_run.proofs.Places.{at_index, take_more, take_count, all_push}
-use Rattle.daxrun.proofs.Playing.{parts_more}
+use Rattle.guest_threads.specs.Ran.{history_in, log_in}
+use Rattle.daxrun.proofs.Playing.{parts_more, history_there, log_there}
 use Rattle.daxrun.proofs.plays.file_parts.Goals as goal
+
+pub body-requires : goal.body-requires
+body-requires c =
+    let lt : c.loop-line.number < length c.args.lines.now = (let n = c.loop-line.invariant.number in omega arith) in
+    record { there = (c.requires.there c.loop-line.number lt).0 }
+
+pub tree-requires : goal.tree-requires
+tree-requires c =
+    let lt : c.loop-line.number < length c.args.lines.now = (let n = c.loop-line.invariant.number in omega arith) in
+    record { there = (c.requires.there c.loop-line.number lt).1 }
 
 pub loop-line-preserved : goal.loop-line-preserved
 loop-line-preserved c =
     let i = c.loop-line.line-index in
     let all = c.args.lines.now in
-    let h = history_at c.args.files.now in
+    let h = history_in c.args.files.now in
+    let logs = log_in c.args.trees.now in
     let inv = c.loop-line.invariant in
     let f = c.line-item.result in
     let lt : i < length all = omega arith in
     let at = at_index all i f lt c.line-item.is in
     let number : c.loop-line.number ≡ 0 + length (take i all) = (let n = inv.number in let k = take_count all i f at in omega arith) in
-    let logs = log_at c.args.ranges.now in
-    let past = c.as_slice-history.ensures ∙ c.history.ensures ∙ ap h number in
-    let log = c.log.ensures ∙ ap logs number in
+    let past = c.as_slice-history.ensures ∙ c.history.ensures ∙ sym (history_there c.args.files.now c.loop-line.number _ c.body.ensures) ∙ ap h number in
+    let log = c.log-log.ensures.log ∙ sym (log_there c.args.trees.now c.loop-line.number _ c.tree.ensures) ∙ ap logs number in
     let is : c.in_ok-part.part ≡ file_part (h (0 + length (take i all))) (logs (0 + length (take i all))) f = c.in_ok-part.ensures.value ∙ (λ j. file_part (past j) (log j) f) in
     record {
       number = ap (λ (n : ℕ). n + 1) inv.number;

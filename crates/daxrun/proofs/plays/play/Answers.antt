@@ -1,60 +1,66 @@
-use Rattle.std.proofs.Common.{◌≡◌, ◌∙◌, ap, sym, subst, refl, ℕ, ◌*◌, ◌<◌, length, slice_get, Some, true, arith}
-use Rattle.plain_file.specs.declared.operations.Entry.{Entry}
-use Rattle.plain_file.specs.Plain.{new_board}
-use Rattle.plain_file.specs.Board.{BoardView}
-use Rattle.page_map.specs.Board.{log_at}
-use Rattle.page_map.specs.Plain.{range_pages}
-use Rattle.page_map.specs.Logs.{sound}
-use Rattle.guest_wire.specs.Wires.{WireView}
+use Rattle.std.proofs.Common.{◌≡◌, ◌∙◌, ap, sym, subst, ℕ, ◌<◌, ◌≤◌, List, length, get_or, slice_get, Some, refl}
+use Rattle.plain_file.specs.declared.operations.First.{First}
+use Rattle.plain_file.specs.File.{max_file}
+use Rattle.dax_script.specs.declared.scripts.Call.{Call}
+use Rattle.dax_script.specs.declared.scripts.FileLine.{FileLine}
+use Rattle.guest_wire.specs.declared.driver.FileRef.{FileRef}
 use Rattle.transcript_text.specs.declared.transcripts.Transcript.{Transcript}
-use Rattle.dax_audit.specs.Tables.{log_in}
 use Rattle.guest_run.specs.Runs.{parts_from}
-use Rattle.guest_run.specs.Working.{history_at}
-use Rattle.daxrun.specs.Session.{firsts_of, empty_firsts}
-use Rattle.daxrun.proofs.Opening.{small_new, empty_small}
-use Rattle.daxrun.proofs.Playing.{servable_new, played_legal, sound_log, all_ours, logs_told, fair_in}
+use Rattle.guest_run.proofs.Places.{all_at, map_len}
+use Rattle.guest_threads.specs.Jobs.{IsServed, AreCallsOf}
+use Rattle.guest_threads.specs.Ran.{HasRun, history_in, log_in}
+use Rattle.daxrun.specs.Session.{firsts_of, IsOpenAt}
+use Rattle.daxrun.proofs.Opening.{firsts_small}
+use Rattle.daxrun.proofs.Playing.{served_open, there_in, played_legal, fair_told, done_told}
 use Rattle.daxrun.proofs.plays.play.Goals as goal
 
-pub start_session-requires-clause-live : goal.start_session-requires-clause-live
-start_session-requires-clause-live g c =
-    let s = c.args.script.now in
-    let state = ap (λ d. d.wire.daemon.now) c.new-client.ensures ∙ ap (λ (v : WireView). v.state) c.in_ok-new.ensures.wire ∙ c.requires.new in
-    record {
-      honest = refl;
-      whole = refl;
-      alone = ap (λ (v : BoardView). v.over) c.in_ok-files.ensures;
-      servable = servable_new (range_pages * s.ranges) s.files _ c.in_ok-files.files c.in_ok-map.map state c.in_ok-files.ensures c.in_ok-map.ensures.new c.requires.playable.files.few;
-    }
+pub run_guests-requires-clause-small : goal.run_guests-requires-clause-small
+run_guests-requires-clause-small g c κs within = λ k d lt.
+    let fs = c.args.script.now.files in
+    let all = firsts_small fs c.requires.playable.files.small in
+    let e = c.in_ok-firsts.ensures ∙ ap firsts_of c.as_slice-lines.ensures in
+    subst (λ (xs : List First). k < length xs → (get_or xs k d).size ≤ max_file) (sym e) (all_at (λ (f : First). f.size ≤ max_file) (firsts_of fs) k d all) lt
 
-pub start_session-requires-clause-small : goal.start_session-requires-clause-small
-start_session-requires-clause-small g c = small_new empty_firsts c.in_ok-files.files c.in_ok-files.ensures (empty_small 16)
+pub run_guests-requires-clause-served : goal.run_guests-requires-clause-served
+run_guests-requires-clause-served g c κs within =
+    let s = c.args.script.now in
+    let lines = c.as_slice-lines.ensures in
+    let count : length c.in_ok-daemon.opened.items ≡ length s.files = c.in_ok-daemon.ensures.count ∙ ap length lines in
+    let opened : IsOpenAt s.files s.ranges c.in_ok-daemon.opened.items c.in_ok-daemon.daemon = subst (λ (fs : List FileLine). IsOpenAt fs s.ranges c.in_ok-daemon.opened.items c.in_ok-daemon.daemon) lines c.in_ok-daemon.ensures.opened in
+    let many : length s.files ≡ length c.in_ok-firsts.firsts = sym (ap length (c.in_ok-firsts.ensures ∙ ap firsts_of lines) ∙ map_len (λ (f : FileLine). f.first) s.files) in
+    subst (λ (z : List FileRef × ℕ). IsServed c.in_ok-daemon.daemon z.0 z.1 s.ranges) (λ i. (sym c.as_slice-handles.ensures.value i, many i)) (served_open s.files s.ranges c.in_ok-daemon.opened.items c.in_ok-daemon.daemon count opened)
+
+pub run_guests-requires-clause-calls : goal.run_guests-requires-clause-calls
+run_guests-requires-clause-calls g c κs within =
+    let s = c.args.script.now in
+    let many : length s.files ≡ length c.in_ok-firsts.firsts = sym (ap length (c.in_ok-firsts.ensures ∙ ap firsts_of c.as_slice-lines.ensures) ∙ map_len (λ (f : FileLine). f.first) s.files) in
+    subst (λ (z : ℕ × List (List Call)). AreCallsOf z.0 s.ranges z.1) (λ i. (many i, sym c.as_slice-guests.ensures i)) (λ n cs at. (c.requires.playable.guests.few n cs at, c.requires.playable.guests.calls n cs at))
+
+pub file_parts-requires-clause-there : goal.file_parts-requires-clause-there
+file_parts-requires-clause-there g c = λ f lt.
+    let ran = c.in_ok-ran.ensures in
+    let e = ap length c.in_ok-firsts.ensures ∙ map_len (λ (l : FileLine). l.first) c.as_slice-lines.result.now in
+    there_in _ _ _ _ _ _ _ ran f (subst (λ (n : ℕ). f < n) (sym e) lt)
 
 pub returns-clause-legal : goal.returns-clause-legal
 returns-clause-legal g c =
     let s = c.args.script.now in
-    let p = c.in_ok-played.played in
-    let e = c.in_ok-played.ensures in
-    let files = c.in_ok-parts.ensures.value ∙ ap (parts_from (history_at p.files) (log_at p.ranges) 0) c.as_slice-lines.ensures in
-    let known : (f n : ℕ) (x : Entry) → slice_get (history_at p.files f) n ≡ Some x → x.guest < length s.guests = λ f n x at.
-    let some = e.known f n x at in
-    let ours = all_ours p.files.guest p.files.files f n x (rw (← c.board.view_is) c.board.invariant.own) at in
-    let zero = e.number in
-    omega (arith, some, ours, zero) in
-    let stands = e.home.stands in
-    let many : length p.ranges.ranges.logs ≡ length s.files = stands.logs ∙ sym stands.refs_of ∙ ap length c.as_slice-handles.ensures.value ∙ c.in_ok-client.ensures.count ∙ ap length c.as_slice-lines.ensures in
-    played_legal s (record { version = 1; ranges = s.ranges; files = c.in_ok-parts.parts; guests = p.guests }) (new_board 0 (firsts_of s.files)) p.files p.ranges c.requires.playable refl refl files e.count e.parts known
-    (λ f lt. sound_log s.ranges (log_at p.ranges f) (subst (λ (n : ℕ). sound n (log_at p.ranges f) ≡ true) e.ranges (c.sound_ranges.ensures.logs f (subst (λ (n : ℕ). f < n) (sym many) lt))))
+    let r = c.in_ok-ran.ran in
+    let t : Transcript = record { version = 1; ranges = s.ranges; files = c.in_ok-parts.parts; guests = r.parts } in
+    let told = c.in_ok-parts.ensures.value ∙ ap (parts_from (history_in r.files) (log_in r.trees) 0) c.as_slice-lines.ensures in
+    played_legal s t r.files r.trees c.requires.playable refl told (subst (λ (z : List First × List (List Call)). HasRun z.0 s.ranges s.background z.1 r.files r.trees r.parts) (λ i. ((c.in_ok-firsts.ensures ∙ ap firsts_of c.as_slice-lines.ensures) i, c.as_slice-guests.ensures i)) c.in_ok-ran.ensures)
 
 pub returns-clause-fair : goal.returns-clause-fair
 returns-clause-fair g c =
     let s = c.args.script.now in
-    let p = c.in_ok-played.played in
-    let e = c.in_ok-played.ensures in
-    let files = c.in_ok-parts.ensures.value ∙ ap (parts_from (history_at p.files) (log_at p.ranges) 0) c.as_slice-lines.ensures in
-    let stands = e.home.stands in
-    let many : length p.ranges.ranges.logs ≡ length s.files = stands.logs ∙ sym stands.refs_of ∙ ap length c.as_slice-handles.ensures.value ∙ c.in_ok-client.ensures.count ∙ ap length c.as_slice-lines.ensures in
-    let t : Transcript = record { version = 1; ranges = s.ranges; files = c.in_ok-parts.parts; guests = p.guests } in
-    record { each = λ n cs part at at'. fair_in s.ranges (log_at p.ranges) (log_in t) cs part.lines (logs_told t (history_at p.files) p.ranges s.files files many) (e.fair n cs part at at') }
+    let r = c.in_ok-ran.ran in
+    let t : Transcript = record { version = 1; ranges = s.ranges; files = c.in_ok-parts.parts; guests = r.parts } in
+    let told = c.in_ok-parts.ensures.value ∙ ap (parts_from (history_in r.files) (log_in r.trees) 0) c.as_slice-lines.ensures in
+    fair_told s t r.files r.trees told (subst (λ (z : List First × List (List Call)). HasRun z.0 s.ranges s.background z.1 r.files r.trees r.parts) (λ i. ((c.in_ok-firsts.ensures ∙ ap firsts_of c.as_slice-lines.ensures) i, c.as_slice-guests.ensures i)) c.in_ok-ran.ensures)
 
 pub returns-clause-done : goal.returns-clause-done
-returns-clause-done g c = record { each = λ n cs part at at'. c.in_ok-played.ensures.done n cs part at at' }
+returns-clause-done g c =
+    let s = c.args.script.now in
+    let r = c.in_ok-ran.ran in
+    let t : Transcript = record { version = 1; ranges = s.ranges; files = c.in_ok-parts.parts; guests = r.parts } in
+    done_told s t r.files r.trees c.requires.playable (subst (λ (z : List First × List (List Call)). HasRun z.0 s.ranges s.background z.1 r.files r.trees r.parts) (λ i. ((c.in_ok-firsts.ensures ∙ ap firsts_of c.as_slice-lines.ensures) i, c.as_slice-guests.ensures i)) c.in_ok-ran.ensures)

@@ -1,5 +1,5 @@
 use Rattle.std.proofs.Common.{◌≡◌, map, take}
-use Rattle.file_share.specs.Passes.{start_body}
+use Rattle.file_share.specs.Known.{start_body}
 use Rattle.file_share.proofs.share.bodies_of.Given as goal
 
 abbrev pub invariant-loop-first : goal.invariant-loop-first

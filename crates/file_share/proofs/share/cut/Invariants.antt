@@ -1,5 +1,4 @@
-use Rattle.file_share.specs.Table.{no_entry}
 use Rattle.file_share.proofs.share.cut.Given as goal
 
 abbrev pub ghosts-cut_as : goal.ghosts-cut_as
-ghosts-cut_as a = record { guest = a.guest; entry = no_entry }
+ghosts-cut_as a = record { guest = a.guest }

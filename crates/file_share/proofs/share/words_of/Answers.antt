@@ -1,5 +1,5 @@
 use Rattle.std.proofs.Common.{rules, ◌∙◌}
-use Rattle.file_share.proofs.Opening.{start_more}
+use Rattle.file_share.proofs.Opened.{start_more}
 use Rattle.file_share.proofs.share.words_of.Goals as goal
 
 pub loop-first-preserved : goal.loop-first-preserved

@@ -1,5 +1,5 @@
 use Rattle.std.proofs.Common.{◌≡◌, ◌∷◌, take}
-use Rattle.file_share.specs.Passes.{start_words}
+use Rattle.file_share.specs.Known.{start_words}
 use Rattle.file_share.proofs.share.words_of.Given as goal
 
 abbrev pub invariant-loop-first : goal.invariant-loop-first

@@ -2,7 +2,6 @@ use Rattle.std.proofs.Common.{◌∙◌}
 use Rattle.guest_dax.specs.Stands.{stand}
 use Rattle.guest_io.proofs.HoldLaws.{pins-few, leases-few, HasHolds-leaves}
 use Rattle.guest_run.specs.Telling.{HasFields}
-use Rattle.guest_run.specs.Working.{CanMake}
 use Rattle.guest_run.proofs.Coming.{still_no_looks, comes_read, comes_written, comes_filled, comes_size, comes_truncated, comes_held, comes_unheld_by, comes_loaded, comes_stored, comes_released, comes_unreleased_by}
 use Rattle.guest_run.proofs.workers.ask.Goals as goal
 
@@ -52,8 +51,7 @@ pub returns-in-Truncate-clause-comes : goal.returns-in-Truncate-clause-comes
 returns-in-Truncate-clause-comes g c = rw c.in-Truncate.is (comes_truncated _ _ _ _ _ _ _ _ _ (still_no_looks _ _ c.truncate.ensures.map c.requires.idle.looks) c.requires.idle.honest c.truncate.ensures.holds c.truncate.ensures.truncates c.told-in-Truncate.ensures.told)
 
 pub returns-in-Ok-hold-clause-comes : goal.returns-in-Ok-hold-clause-comes
-unfolding CanMake
-returns-in-Ok-hold-clause-comes g c = rw c.in-Hold.is (comes_held _ _ _ _ _ _ _ _ _ _ (rw c.in-Hold.is at c.requires.call).3 (c.hold.ensures.entries c.requires.idle.honest) c.in-Ok-hold.ensures.asks c.held_line.ensures.line)
+returns-in-Ok-hold-clause-comes g c = rw c.in-Hold.is (comes_held _ _ _ _ _ _ _ _ _ _ (c.hold.ensures.entries c.requires.idle.honest) c.in-Ok-hold.ensures.asks c.held_line.ensures.line)
 
 pub returns-in-Err-hold-clause-comes : goal.returns-in-Err-hold-clause-comes
 returns-in-Err-hold-clause-comes g c = comes_unheld_by _ _ _ _ c.args.number _ _ _ _ _ c.in-Hold.is c.requires.idle.honest c.requires.idle.holds c.in-Err-hold.ensures.rest.map.count (c.in-Err-hold.ensures.entries c.requires.idle.honest) c.in-Err-hold.ensures.asks

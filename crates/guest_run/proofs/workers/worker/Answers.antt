@@ -6,12 +6,12 @@ use Rattle.transcript_text.specs.TranscriptReading.{IsPrintableNumbered}
 use Rattle.guest_dax.specs.Stands.{stand}
 use Rattle.guest_io.specs.Holds.{HasHolds}
 use Rattle.guest_io.proofs.HoldLaws.{LeavesRest-same, LeavesRest-both}
-use Rattle.guest_run.specs.Working.{first_at, history_at}
+use Rattle.guest_run.specs.Working.{first_at, history_at, notes_at}
 use Rattle.guest_run.proofs.Places.{at_index, all_push}
 use Rattle.guest_run.proofs.Guests.{begun}
 use Rattle.guest_run.proofs.Following.{followed_none, can_make, step_followed}
 use Rattle.guest_run.proofs.Running.{step_run}
-use Rattle.guest_run.proofs.Fairness.{alone_after, fair_none, step_fair}
+use Rattle.guest_run.proofs.Fairness.{takes_after, leases_after, barred_none, held_up_none, step_barred, step_held_up}
 use Rattle.guest_run.proofs.workers.worker.Goals as goal
 
 pub returns-in_err-with_capacity-clause-rest : goal.returns-in_err-with_capacity-clause-rest
@@ -32,8 +32,9 @@ loop-call-init g c =
       rest = LeavesRest-same u;
       refs = refl;
       followed = rw none (followed_none cs h fresh (λ hold. has.behind hold (omega (arith, fresh))));
-      run = rw none (begun u.files.guest (range_count u.map) (first_at u.files) (history_at u.files) (log_at u.map) cs);
-      fair = λ alone. rw none (fair_none (range_count u.map) (log_at u.map) cs);
+      run = rw none (begun u.files.guest (range_count u.map) (first_at u.files) (history_at u.files) (log_at u.map) (notes_at u.files) cs);
+      barred = λ alone. rw none (barred_none cs);
+      held_up = λ alone. rw none (held_up_none (range_count u.map) (log_at u.map) cs);
       printable = rw none tt;
     }
 
@@ -51,7 +52,7 @@ make_call-requires-clause-call g c =
     let all = c.args.calls.now in
     let inv = c.loop-call.invariant in
     let lt : i < length all = omega arith in
-    rw inv.refs (can_make (length c.args.guest.now.dax.refs) (range_count u.map) u.files.plain s c.loop-call.guest.holds all c.loop-call.lines i c.call-item.result c.requires.calls inv.followed (at_index all i c.call-item.result lt c.call-item.is) (sym inv.count) inv.rest.files.plain inv.rest.map.count)
+    rw inv.refs (can_make (length c.args.guest.now.dax.refs) (range_count u.map) s c.loop-call.guest.holds all c.loop-call.lines i c.call-item.result c.requires.calls inv.followed (at_index all i c.call-item.result lt c.call-item.is) (sym inv.count) inv.rest.map.count)
 
 pub loop-call-preserved : goal.loop-call-preserved
 loop-call-preserved g c =
@@ -62,11 +63,10 @@ loop-call-preserved g c =
     let k = c.make_call.new.guest.holds in
     let files = length c.args.guest.now.dax.refs in
     let ranges = range_count u.map in
-    let plain = u.files.plain in
     let all = c.args.calls.now in
     let ls = c.loop-call.lines in
     let i = c.loop-call.call-index in
-    let n = c.loop-call.number in
+    let n = c.loop-call.made in
     let call = c.call-item.result in
     let line = c.in_ok-line.line in
     let inv = c.loop-call.invariant in
@@ -82,10 +82,11 @@ loop-call-preserved g c =
       idle = e.idle;
       rest = LeavesRest-both u s t inv.rest e.rest;
       refs = e.refs ∙ inv.refs;
-      followed = rw longer (step_followed files ranges plain s t h k all ls n call line c.requires.calls inv.idle.holds inv.followed number at e.tells);
+      followed = rw longer (step_followed files ranges s t h k all ls n call line c.requires.calls inv.idle.holds inv.followed number at e.tells);
       run = rw longer
-          (step_run files ranges plain u.files.guest (first_at u.files) (λ f. length (history_at u.files f)) s t h k all ls n call line inv.rest.files.guest inv.rest.map.count inv.rest.files.firsts inv.idle.sizes e.rest c.requires.calls inv.idle.holds inv.followed number at inv.run e.tells);
-      fair = λ alone. rw longer
-          (step_fair ranges s t h k all ls n call line (alone_after u s inv.rest alone) inv.rest.map.count e.rest inv.idle.holds inv.followed number at e.tells (inv.fair alone));
+          (step_run files ranges u.files.guest (first_at u.files) (λ f. length (history_at u.files f)) s t h k all ls n call line inv.rest.files.guest inv.idle.honest inv.rest.map.count inv.rest.files.firsts inv.idle.sizes e.rest c.requires.calls inv.idle.holds inv.followed number at inv.run e.tells);
+      barred = λ alone. rw longer (step_barred s t h k all ls n call line (leases_after u s inv.rest alone) inv.idle.holds inv.followed number at e.tells (inv.barred alone));
+      held_up = λ alone. rw longer
+          (step_held_up ranges s t h k all ls n call line (takes_after u s inv.rest alone) inv.rest.map.count e.rest inv.idle.holds inv.followed number at e.tells (inv.held_up alone));
       printable = rw longer (all_push IsPrintableNumbered ls numbered inv.printable (record { call = omega arith; line = e.printable }));
     }

@@ -1,6 +1,6 @@
 use Rattle.std.proofs.Common.{◌≡◌, ◌∙◌, ◌<◌, ◌++◌, ◌∷◌, [], ap, sym, subst, refl, length, arith}
 use Rattle.std.proofs.lemmas.Grind.{common_steps}
-use Rattle.plain_file.specs.Board.{BoardView, may_apply}
+use Rattle.plain_file.specs.Board.{BoardView}
 use Rattle.plain_file.specs.declared.operations.Applied.{Applied}
 use Rattle.dax_host.proofs.SharedBoards.{turn_bytes, turn_refuses, own_entry, turn_applies, grown_turn_file}
 use Rattle.dax_host.proofs.shared_boards.TurnFileFileBoard.apply.Goals as goal

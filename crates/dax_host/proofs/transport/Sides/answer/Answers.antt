@@ -1,4 +1,4 @@
-use Rattle.std.proofs.Common.{◌≡◌, ◌∙◌, ap, arith, ◌≤◌, ◌++◌, length, ℕ, List}
+use Rattle.std.proofs.Common.{◌∙◌, ap, arith, ◌≤◌, ◌++◌, length, ℕ, List}
 use Rattle.dax_host.specs.Queue.{QueueView, after_return}
 use Rattle.dax_host.proofs.Carrying.{written_back}
 use Rattle.dax_host.proofs.transport.Sides.answer.Goals as goal

@@ -1,9 +1,8 @@
-use Rattle.std.proofs.Common.{subst}
-use Rattle.std.specs.Slots.{slots_items}
+use Rattle.std.proofs.Common.{◌<◌, sym, subst}
 use Rattle.atomic_table.specs.Seated.{TableId}
-use Rattle.file_share.specs.Known.{Known, AsSeen}
+use Rattle.file_share.specs.Steps.{Accounted}
+use Rattle.file_share.specs.Known.{Known, past_seen}
 use Rattle.file_share.proofs.table.FileTable.close.Goals as goal
 
-pub returns-clause-seen : goal.returns-clause-seen
-returns-clause-seen c = subst (λ (t : TableId). AsSeen t.slots c.args.pass.view (slots_items c.close.result.slots)) c.self.view_is
-    (subst (λ (k : Known). AsSeen c.self.inside.table.shared.table_id.slots k.view (slots_items c.close.result.slots)) c.pass.view_is c.close.ensures.contents)
+pub returns-clause-account : goal.returns-clause-account
+returns-clause-account c f l = subst (λ (k : Known). Accounted k.view.numbers f (past_seen k.view f)) c.pass.view_is (c.close.ensures.account f (subst (λ (t : TableId). f < t.slots) (sym c.self.view_is) l))

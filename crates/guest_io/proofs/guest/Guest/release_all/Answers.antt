@@ -1,6 +1,22 @@
-use Rattle.std.proofs.Common.{arith}
+use Rattle.std.proofs.Common.{◌∙◌, arith, rules}
+use Rattle.guest_io.proofs.HoldLaws.{LeavesRest-both, SameEntries-both}
 use Rattle.guest_io.proofs.HoldReleasing.{count-none}
 use Rattle.guest_io.proofs.guest.Guest.release_all.Goals as goal
+
+pub loop-hold-preserved : goal.loop-hold-preserved
+loop-hold-preserved g c =
+    let k = c.loop-hold.invariant in
+    let e = c.release-released.ensures in (
+      e.home,
+      e.holds,
+      LeavesRest-both _ _ _ k.2 e.rest,
+      SameEntries-both _ _ _ k.3 e.entries,
+      λ none. e.looks (k.4 none),
+      e.logs ∙ k.5,
+      e.driver ∙ k.6,
+      e.refs ∙ k.7,
+      search rules,
+    )
 
 pub returns-clause-none : goal.returns-clause-none
 returns-clause-none g c =

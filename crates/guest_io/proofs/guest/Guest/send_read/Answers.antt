@@ -34,6 +34,7 @@ returns-in-Ok-clause-home g c =
       both = c.read-sent.ensures.boards;
       within = omega (arith, c.requires.file, c.requires.home.stands.refs_of);
       free = c.requires.home.stands.turn;
+      whole = c.requires.home.plain;
       sound = c.sound-2.ensures;
       on_file = λ honest. read-on (g.W.Wire.wire before).state (next_number c.args.self.now.dax.driver.unique) at c.args.file c.args.off c.args.len c.requires.most (handle-of s c.args.self.now.dax.refs at c.args.file c.requires.home.stands c.requires.file c.ref_of-at.ensures honest);
     } in
@@ -56,6 +57,7 @@ returns-in-Err-clause-home g c =
       both = c.read-sent.ensures.boards;
       within = omega (arith, c.requires.file, c.requires.home.stands.refs_of);
       free = c.requires.home.stands.turn;
+      whole = c.requires.home.plain;
       sound = c.sound-2.ensures;
       on_file = λ honest. read-on (g.W.Wire.wire before).state (next_number c.args.self.now.dax.driver.unique) at c.args.file c.args.off c.args.len c.requires.most (handle-of s c.args.self.now.dax.refs at c.args.file c.requires.home.stands c.requires.file c.ref_of-at.ensures honest);
     } in
@@ -78,6 +80,7 @@ returns-in-Ok-clause-sends g c =
       both = c.read-sent.ensures.boards;
       within = omega (arith, c.requires.file, c.requires.home.stands.refs_of);
       free = c.requires.home.stands.turn;
+      whole = c.requires.home.plain;
       sound = c.sound-2.ensures;
       on_file = λ honest. read-on (g.W.Wire.wire before).state (next_number c.args.self.now.dax.driver.unique) at c.args.file c.args.off c.args.len c.requires.most (handle-of s c.args.self.now.dax.refs at c.args.file c.requires.home.stands c.requires.file c.ref_of-at.ensures honest);
     } in
@@ -100,6 +103,7 @@ returns-in-Err-clause-sends g c =
       both = c.read-sent.ensures.boards;
       within = omega (arith, c.requires.file, c.requires.home.stands.refs_of);
       free = c.requires.home.stands.turn;
+      whole = c.requires.home.plain;
       sound = c.sound-2.ensures;
       on_file = λ honest. read-on (g.W.Wire.wire before).state (next_number c.args.self.now.dax.driver.unique) at c.args.file c.args.off c.args.len c.requires.most (handle-of s c.args.self.now.dax.refs at c.args.file c.requires.home.stands c.requires.file c.ref_of-at.ensures honest);
     } in

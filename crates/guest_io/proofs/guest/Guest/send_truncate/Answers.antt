@@ -35,6 +35,7 @@ returns-in-Ok-clause-home g c =
       both = c.setattr_size-sent.ensures.boards;
       within = omega (arith, c.requires.file, c.requires.home.stands.refs_of);
       free = c.requires.home.stands.turn;
+      whole = c.requires.home.plain;
       sound = c.sound-2.ensures;
       on_file = λ honest. truncate-on (g.W.Wire.wire before).state old.files.hands.bar (next_number c.args.self.now.dax.driver.unique) at c.args.file c.args.size c.requires.size c.requires.bar (handle-of s c.args.self.now.dax.refs at c.args.file c.requires.home.stands c.requires.file c.ref_of-at.ensures honest);
     } in
@@ -57,6 +58,7 @@ returns-in-Err-clause-home g c =
       both = c.setattr_size-sent.ensures.boards;
       within = omega (arith, c.requires.file, c.requires.home.stands.refs_of);
       free = c.requires.home.stands.turn;
+      whole = c.requires.home.plain;
       sound = c.sound-2.ensures;
       on_file = λ honest. truncate-on (g.W.Wire.wire before).state old.files.hands.bar (next_number c.args.self.now.dax.driver.unique) at c.args.file c.args.size c.requires.size c.requires.bar (handle-of s c.args.self.now.dax.refs at c.args.file c.requires.home.stands c.requires.file c.ref_of-at.ensures honest);
     } in
@@ -79,6 +81,7 @@ returns-in-Ok-clause-sends g c =
       both = c.setattr_size-sent.ensures.boards;
       within = omega (arith, c.requires.file, c.requires.home.stands.refs_of);
       free = c.requires.home.stands.turn;
+      whole = c.requires.home.plain;
       sound = c.sound-2.ensures;
       on_file = λ honest. truncate-on (g.W.Wire.wire before).state old.files.hands.bar (next_number c.args.self.now.dax.driver.unique) at c.args.file c.args.size c.requires.size c.requires.bar (handle-of s c.args.self.now.dax.refs at c.args.file c.requires.home.stands c.requires.file c.ref_of-at.ensures honest);
     } in
@@ -101,6 +104,7 @@ returns-in-Err-clause-sends g c =
       both = c.setattr_size-sent.ensures.boards;
       within = omega (arith, c.requires.file, c.requires.home.stands.refs_of);
       free = c.requires.home.stands.turn;
+      whole = c.requires.home.plain;
       sound = c.sound-2.ensures;
       on_file = λ honest. truncate-on (g.W.Wire.wire before).state old.files.hands.bar (next_number c.args.self.now.dax.driver.unique) at c.args.file c.args.size c.requires.size c.requires.bar (handle-of s c.args.self.now.dax.refs at c.args.file c.requires.home.stands c.requires.file c.ref_of-at.ensures honest);
     } in

@@ -1,7 +1,7 @@
 use Rattle.std.proofs.Common.{◌≡◌, refl, arith}
 use Rattle.plain_file.specs.declared.operations.Way.TheVariants as ways
 use Rattle.guest_dax.specs.Stands.{stand}
-use Rattle.guest_io.proofs.Truncating.{under_bar, refused_under, leaves-barred, leaves-refused}
+use Rattle.guest_io.proofs.Truncating.{under_bar, refused_under, leaves-barred, truncates-barred, leaves-refused}
 use Rattle.guest_io.proofs.guest.Guest.truncate.Goals as goal
 
 pub returns-in-Err-clause-leaves : goal.returns-in-Err-clause-leaves
@@ -18,3 +18,11 @@ returns-clause-leaves g c =
     let new = stand (g.W.Wire.wire c.send_truncate-sent.new.self.dax.driver.wire) (g.F.FileBoard.board c.send_truncate-sent.new.self.dax.files) (g.R.MapBoard.map c.send_truncate-sent.new.self.dax.ranges) in
     let is : mid ≡ under_bar old c.args.file = rw (c.break_file.ensures.driver, c.break_file.ensures.ranges, c.in-Ok.ensures.bars.1) (refl {a = under_bar old c.args.file}) in
     leaves-barred old mid new c.args.file c.args.call ways.Req (g.F.FileBoard.board c.unbar.new.self) c.requires.bar is c.unbar.ensures c.send_truncate-sent.ensures.rest
+
+pub returns-clause-truncates : goal.returns-clause-truncates
+returns-clause-truncates g c =
+    let old = stand (g.W.Wire.wire c.args.self.now.dax.driver.wire) (g.F.FileBoard.board c.args.self.now.dax.files) (g.R.MapBoard.map c.args.self.now.dax.ranges) in
+    let mid = stand (g.W.Wire.wire c.break_file.new.self.driver.wire) (g.F.FileBoard.board c.break_file.new.self.files) (g.R.MapBoard.map c.break_file.new.self.ranges) in
+    let new = stand (g.W.Wire.wire c.send_truncate-sent.new.self.dax.driver.wire) (g.F.FileBoard.board c.send_truncate-sent.new.self.dax.files) (g.R.MapBoard.map c.send_truncate-sent.new.self.dax.ranges) in
+    let is : mid ≡ under_bar old c.args.file = rw (c.break_file.ensures.driver, c.break_file.ensures.ranges, c.in-Ok.ensures.bars.1) (refl {a = under_bar old c.args.file}) in
+    truncates-barred old mid new c.args.file c.args.call c.args.size c.send_truncate-sent.result (g.F.FileBoard.board c.unbar.new.self) c.requires.bar c.in-Ok.ensures.bars.0 is c.unbar.ensures c.send_truncate-sent.ensures.sends

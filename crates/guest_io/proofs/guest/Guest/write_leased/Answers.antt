@@ -27,7 +27,7 @@ returns-then-end-seen-clause-writes g c =
     let n = g.F.FileBoard.board c.unlease.new.self in
     let t = stand (g.W.Wire.wire c.send_write.new.self.dax.driver.wire) (g.F.FileBoard.board c.send_write.new.self.dax.files) (g.R.MapBoard.map c.send_write.new.self.dax.ranges) in
     let is : n ≡ after_lease v c.args.file c.lease-seen.result = c.unlease.ensures ∙ ap (λ (b : BoardView). unleased b c.args.file) c.lease-seen.ensures.1 in
-    writes-request wire map v n t c.args.file c.args.call c.args.off c.args.bytes.now c.lease-seen.result c.send_write.result c.requires.ranges (omega (arith, c.requires.file, c.requires.home.stands.refs_of)) (omega (arith, c.if-end-seen.true)) c.requires.looks c.lease-seen.ensures.0 c.requires.home.plain is c.send_write.ensures.rest c.send_write.ensures.sends c.send_write.ensures.closes
+    writes-request wire map v n t c.args.file c.args.call c.args.off c.args.bytes.now c.lease-seen.result c.send_write.result c.requires.ranges (omega (arith, c.requires.file, c.requires.home.stands.refs_of)) (omega (arith, c.if-end-seen.true)) c.requires.looks c.lease-seen.ensures.0 is c.send_write.ensures.rest c.send_write.ensures.sends
 
 pub returns-clause-leaves : goal.returns-clause-leaves
 returns-clause-leaves g c =

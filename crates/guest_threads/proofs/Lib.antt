@@ -1,0 +1,10 @@
+pub mod Split
+pub mod Seating
+pub mod Fresh
+pub mod Boarding
+pub mod Returning
+pub mod Ended
+pub mod JoiningFiles
+pub mod JoiningLogs
+pub mod Joining
+pub mod Backing
