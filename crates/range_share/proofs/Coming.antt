@@ -27,13 +27,13 @@ none_noted v e r some_on = absurd (let z = no_pins r v.mine.shown.pins e in omeg
 -- ---- the first pass
 
 pub first_showing : (ranges files movers : ℕ) → ranges ≤ 256 → files ≤ 64 → IsShowing (opener ranges files movers)
-first_showing ranges files movers few many = let r = starts ranges files movers (replicate (files + 2 * ranges + 1) 0) (replicate files (Some [])) few many refl refl in record {
+first_showing ranges files movers few many = let r = starts ranges files movers (replicate (8 * files + 8 * ranges + 8) 0) (replicate files (Some [])) few many refl refl in record {
   core = r.core;
   good = r.good;
   part = (r.views_fit 0 (opener ranges files movers) refl refl).part;
 }
 
-pub sound_first : (t : Chair) (ranges files movers : ℕ) → ranges ≤ 256 → files ≤ 64 → t.me ≡ (opener ranges files movers, []) → t.table_id.words ≡ files + 2 * ranges + 1 → t.table_id.slots ≡ files → Sound t None 0 root None ranges files no_looks
+pub sound_first : (t : Chair) (ranges files movers : ℕ) → ranges ≤ 256 → files ≤ 64 → t.me ≡ (opener ranges files movers, []) → t.table_id.words ≡ 8 * files + 8 * ranges + 8 → t.table_id.slots ≡ files → Sound t None 0 root None ranges files no_looks
 sound_first t ranges files movers few many is words slots =
     let h : Window = new_window ranges files guests in
     let n : ranges_of t.me.0 ≡ ranges = ap (λ m. ranges_of m.0) is ∙ (length-map h.states not_moving ∙ length-replicate ranges states.Free) in
@@ -54,7 +54,7 @@ sound_first t ranges files movers few many is words slots =
 -- ---- a pass that was split off
 
 module _ (s t : Chair) (n : ℕ) (hand : Option (List LogEntry)) (file guest : ℕ) (moves : Option ℕ) (ranges files : ℕ) (looks : List (Option RangeWord)) (ok : Sound s hand file guest moves ranges files looks) (table : t.table_id ≡ s.table_id) where
-  pub sound_child : (ranges' files' : ℕ) → n < guests → t.me ≡ (child just_seen blank s.me.0 n, []) → IsShowing t.me.0 → t.table_id.words ≡ files' + 2 * ranges' + 1 → t.table_id.slots ≡ files' → Sound t None 0 n None ranges' files' no_looks
+  pub sound_child : (ranges' files' : ℕ) → n < guests → t.me ≡ (child just_seen blank s.me.0 n, []) → IsShowing t.me.0 → t.table_id.words ≡ 8 * files' + 8 * ranges' + 8 → t.table_id.slots ≡ files' → Sound t None 0 n None ranges' files' no_looks
   sound_child ranges' files' small is showing words slots =
       let l : ranges_of t.me.0 ≡ ranges_of s.me.0 = ap (λ m. ranges_of m.0) is ∙ length-map s.me.0.mine.shown.moving stays_put in
       let k : files_of t.me.0 ≡ files_of s.me.0 = ap (λ m. files_of m.0) is ∙ length-map s.me.0.mine.shown.branches only_seen in

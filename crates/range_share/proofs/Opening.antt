@@ -50,8 +50,8 @@ start_good ranges files movers few many = let n = length-replicate files (new_si
   alone_seen = λ g f l off near. subst (λ (s : Side). seen_by s g ≡ length s.log) (sym (new_at ranges files f (omega arith))) (get_replicate {A = ℕ} guests g 0);
 }
 
-start_words : (ranges files movers : ℕ) → ShowsWords (replicate (files + 2 * ranges + 1) 0) (new_core ranges files movers)
-start_words ranges files movers = let h = new_window ranges files guests in let many : ℕ = files + 2 * ranges + 1 in let n = length-replicate ranges states.Free in let m = length-replicate files (new_side guests) in let w = length-replicate {A = ℕ} many 0 in record {
+start_words : (ranges files movers : ℕ) → ShowsWords (replicate (8 * files + 8 * ranges + 8) 0) (new_core ranges files movers)
+start_words ranges files movers = let h = new_window ranges files guests in let many : ℕ = 8 * files + 8 * ranges + 8 in let n = length-replicate ranges states.Free in let m = length-replicate files (new_side guests) in let w = length-replicate {A = ℕ} many 0 in record {
   wide = omega arith;
   trees = λ f l. get_replicate many (tree_at f) 0 ∙ sym (ap (λ (s : Side). number_of s.holder) (new_at ranges files f (omega arith)));
   controls = λ r l. get_replicate many (control_at (length h.sides) r) 0 ∙ sym (ap (λ (x : RangeState). control_word (word_of x (pin_count h r))) (free_at ranges files r));
@@ -71,8 +71,8 @@ start_bare ranges files movers n = let h : Window = new_window ranges files gues
     λ i. record { shown = record { moving = a i; branches = b i; pins = p i; maps = d i }; movers = movers }
 
 -- The table to which nothing was done yet, with its first pass.
-pub starts : (ranges files movers : ℕ) (words : List ℕ) (slots : List (Option (List LogEntry))) → ranges ≤ 256 → files ≤ 64 → words ≡ replicate (files + 2 * ranges + 1) 0 → slots ≡ replicate files (Some []) → Shows window_kit (opening words slots (opener ranges files movers))
+pub starts : (ranges files movers : ℕ) (words : List ℕ) (slots : List (Option (List LogEntry))) → ranges ≤ 256 → files ≤ 64 → words ≡ replicate (8 * files + 8 * ranges + 8) 0 → slots ≡ replicate files (Some []) → Shows window_kit (opening words slots (opener ranges files movers))
 starts ranges files movers words slots few many is is' = let c : Core = new_core ranges files movers in
     subst (λ (z : List ℕ × List (Option (List LogEntry)) × Mine). Shows window_kit (opening z.0 z.1 (views.opener z.2 blank))) (λ i. (sym is i, sym is' i, start_bare ranges files movers root i))
-    (opens window_kit window_laws c (replicate (files + 2 * ranges + 1) 0) (replicate files (Some [])) (start_good ranges files movers few many) (ranges, files, movers, refl) (start_words ranges files movers)
+    (opens window_kit window_laws c (replicate (8 * files + 8 * ranges + 8) 0) (replicate files (Some [])) (start_good ranges files movers few many) (ranges, files, movers, refl) (start_words ranges files movers)
     (map_replicate some files (Some []) ∙ sym (map_replicate home files (new_side guests))) (start_bare ranges files movers))

@@ -19,7 +19,7 @@ module _ (F : ℕ) (ws : List ℕ) (c c' : Core) (was : F ≡ length c.window.si
   pub map_was : (r : ℕ) → r < length c.window.states → get_or ws (map_at F r) 0 ≡ map_word (target c.window r)
   map_was r l = ap (λ k. get_or ws (map_at k r) 0) was ∙ w.maps r l
 
-  wide_now : (i n : ℕ) → length (set ws i n) ≡ length c'.window.sides + 2 * length c'.window.states + 1
+  wide_now : (i n : ℕ) → length (set ws i n) ≡ 8 * length c'.window.sides + 8 * length c'.window.states + 8
   wide_now i n = let a = length-set ws i n in let b = w.wide in omega arith
 
   -- the control word of a range

@@ -233,7 +233,7 @@ files_of v = length v.mine.shown.branches
 -- a live seat of this table
 pub record Stands (t : TableId) (s : Chair) : Type 0 where
   pub same : s.table_id ≡ t
-  pub wide : t.words ≡ t.slots + 2 * ranges_of s.me.0 + 1
+  pub wide : t.words ≡ 8 * t.slots + 8 * ranges_of s.me.0 + 8
   pub few_files : t.slots ≤ 64
   pub few_ranges : ranges_of s.me.0 ≤ 256
   pub files : files_of s.me.0 ≡ t.slots

@@ -68,18 +68,18 @@ abbrev pub number_of : Option ℕ → ℕ
 number_of None = 0
 number_of (Some g) = g + 1
 
--- where the words of a file's tree, of a range and of its map stand, behind the table's first, which stays 0
+-- Where the words of a file's tree, of a range and of its map stand, behind the table's first, which stays 0. Files and ranges stand 8 words apart, so that guests on different ones change words of different cache lines.
 abbrev pub tree_at : ℕ → ℕ
-tree_at f = f + 1
+tree_at f = 8 * f + 8
 
 abbrev pub control_at : ℕ → ℕ → ℕ
-control_at files r = files + 2 * r + 1
+control_at files r = 8 * files + 8 * r + 8
 
 abbrev pub map_at : ℕ → ℕ → ℕ
-map_at files r = files + 2 * r + 2
+map_at files r = 8 * files + 8 * r + 9
 
 pub record ShowsWords (words : List ℕ) (c : Core) : Type 0 where
-  pub wide : length words ≡ length c.window.sides + 2 * length c.window.states + 1
+  pub wide : length words ≡ 8 * length c.window.sides + 8 * length c.window.states + 8
   pub trees : (f : ℕ) → f < length c.window.sides → slice_index words (tree_at f) ≡ number_of (side c.window f).holder
   pub controls : (r : ℕ) → r < length c.window.states → slice_index words (control_at (length c.window.sides) r) ≡ control_word (word_at c.window r)
   pub maps : (r : ℕ) → r < length c.window.states → slice_index words (map_at (length c.window.sides) r) ≡ map_word (target c.window r)

@@ -31,10 +31,10 @@ fn empty_trees(alloc: Global, files: usize) -> Result<Vec<Option<Tree>>, Memory>
 pub(crate) fn open(alloc: Global, sizes: Sizes) -> Result<(Board, Chair), Memory>
     requires few { (sizes.ranges ≤ 256) × (sizes.files ≤ 64) }
     ensures seat { IfOk result (λ t. (t.1.table_id ≡ t.0.shared.table_id) × (t.1.me ≡ (opener sizes.ranges sizes.files sizes.movers, []))) }
-    ensures counts { IfOk result (λ t. (t.0.shared.table_id.words ≡ sizes.files + 2 * sizes.ranges + 1) × (t.0.shared.table_id.slots ≡ sizes.files)) }
+    ensures counts { IfOk result (λ t. (t.0.shared.table_id.words ≡ 8 * sizes.files + 8 * sizes.ranges + 8) × (t.0.shared.table_id.slots ≡ sizes.files)) }
 {
     let files = sizes.files as usize;
-    let words = vec![in alloc; 0; files + 2 * sizes.ranges as usize + 1]?;
+    let words = vec![in alloc; 0; 8 * files + 8 * sizes.ranges as usize + 8]?;
     let trees = empty_trees(alloc, files)?;
     match Table::new(alloc, words.as_slice(), trees, &sizes) {
         Ok(made) => Ok(made),

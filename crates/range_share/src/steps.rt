@@ -33,7 +33,7 @@ pub(crate) fn try_enter(top: &Top, seat: &mut Chair, file: usize, guest: u32) ->
     ensures alone { IfSome result (λ log. others_may seat.old.me.0.guest seat.old.me.0.mine.movers ≡ false → log ≡ (branch_of seat.old.me.0 file).seen) }
     ensures joined { IfSome result (λ log. AllIn seat.old.me.0 → LogsBack seat.old.me.0.numbers file log) }
 {
-    if top.compare_exchange::<Enter>(seat, file + 1, 0, guest as u64 + 1) == 0 {
+    if top.compare_exchange::<Enter>(seat, 8 * file + 8, 0, guest as u64 + 1) == 0 {
         top.exchange(seat, file, None)
     } else {
         None
@@ -49,7 +49,7 @@ pub(crate) fn put_tree(top: &Top, seat: &mut Chair, file: usize, hand: Tree)
     ensures deed { DoesSo (leave file) seat.old.me.0.noted Always seat.old.me.0 seat.new.me.0 × (seat.new.me.1 ≡ []) }
 {
     top.exchange(seat, file, Some(hand));
-    top.store::<Leave>(seat, file + 1, 0);
+    top.store::<Leave>(seat, 8 * file + 8, 0);
 }
 
 // Looks at a range. The word is noted as a look.
@@ -60,7 +60,7 @@ pub(crate) fn look_at(top: &Top, seat: &mut Chair, files: usize, range: usize) -
     ensures tells { Tells seat.old.me.0 range result }
     ensures deed { DoesAt (look range) (saw seat.old.me.0.noted seat.old.me.0.mine range result) (λ c. result ≡ word_at c.window range) seat.old seat.new }
 {
-    unpack(top.load::<LookAt>(seat, files + 2 * range + 1))
+    unpack(top.load::<LookAt>(seat, 8 * files + 8 * range + 8))
 }
 
 // Looks at a range for a take. The word is noted as a look where the range may not be taken.
@@ -71,7 +71,7 @@ pub(crate) fn peek_at(top: &Top, seat: &mut Chair, files: usize, range: usize) -
     ensures tells { Tells seat.old.me.0 range result }
     ensures deed { DoesAt (look range) (saw_for_take seat.old.me.0.noted seat.old.me.0.mine range result) (λ c. result ≡ word_at c.window range) seat.old seat.new }
 {
-    unpack(top.load::<PeekAt>(seat, files + 2 * range + 1))
+    unpack(top.load::<PeekAt>(seat, 8 * files + 8 * range + 8))
 }
 
 // One try to take a range, from a word that was seen. Where another is found, that one comes, and is noted as a look.
@@ -94,7 +94,7 @@ pub(crate) fn try_take(
 {
     let found = top.compare_exchange::<Take>(
         seat,
-        files + 2 * range + 1,
+        8 * files + 8 * range + 8,
         pack(old),
         pack(RangeWord::Moving { guest }),
     );
@@ -114,7 +114,7 @@ pub(crate) fn put_map(top: &Top, seat: &mut Chair, files: usize, range: usize, t
     ensures table { seat.new.table_id ≡ seat.old.table_id }
     ensures deed { DoesAt (set_map range to) seat.old.me.0.noted Always seat.old seat.new }
 {
-    top.store::<SetMap>(seat, files + 2 * range + 2, pack_map(to));
+    top.store::<SetMap>(seat, 8 * files + 8 * range + 9, pack_map(to));
 }
 
 // Places a chunk in the moved range.
@@ -140,7 +140,7 @@ pub(crate) fn settle_in(
         mode,
         pins: 0,
     });
-    top.store::<SettleMapped>(seat, files + 2 * range + 1, word);
+    top.store::<SettleMapped>(seat, 8 * files + 8 * range + 8, word);
 }
 
 // The moved range is free.
@@ -150,7 +150,7 @@ pub(crate) fn settle_out(top: &Top, seat: &mut Chair, files: usize, range: usize
     ensures table { seat.new.table_id ≡ seat.old.table_id }
     ensures deed { DoesAt (settle_free range) seat.old.me.0.noted Always seat.old seat.new }
 {
-    top.store::<SettleFree>(seat, files + 2 * range + 1, 0);
+    top.store::<SettleFree>(seat, 8 * files + 8 * range + 8, 0);
 }
 
 // One pin more on a range of the tree that is had.
@@ -163,7 +163,7 @@ pub(crate) fn add_pin(top: &Top, seat: &mut Chair, files: usize, range: usize)
     ensures table { seat.new.table_id ≡ seat.old.table_id }
     ensures deed { (f c : ℕ) (p : Placed) → HasIn seat.old.me.0.mine f c p → p.range ≡ range → DoesAt (pin f c p) (pinned_noted seat.old.me.0.noted f c p) Always seat.old seat.new }
 {
-    top.fetch_add::<AddPin>(seat, files + 2 * range + 1, 1);
+    top.fetch_add::<AddPin>(seat, 8 * files + 8 * range + 8, 1);
 }
 
 // One pin less.
@@ -173,7 +173,7 @@ pub(crate) fn drop_pin(top: &Top, seat: &mut Chair, files: usize, range: usize)
     ensures table { seat.new.table_id ≡ seat.old.table_id }
     ensures deed { DoesAt (unpin range) seat.old.me.0.noted Always seat.old seat.new }
 {
-    top.fetch_sub::<DropPin>(seat, files + 2 * range + 1, 1);
+    top.fetch_sub::<DropPin>(seat, 8 * files + 8 * range + 8, 1);
 }
 
 // What is placed in a range for reading may be written.
@@ -185,7 +185,7 @@ pub(crate) fn raise(top: &Top, seat: &mut Chair, files: usize, range: usize)
     ensures table { seat.new.table_id ≡ seat.old.table_id }
     ensures deed { (f c : ℕ) (p : Placed) → HasIn seat.old.me.0.mine f c p → p.range ≡ range → DoesAt (upgrade f c p) seat.old.me.0.noted Always seat.old seat.new }
 {
-    top.fetch_or::<Raise>(seat, files + 2 * range + 1, 65_536);
+    top.fetch_or::<Raise>(seat, 8 * files + 8 * range + 8, 65_536);
 }
 
 // Looks at what a range is mapped to.
@@ -197,7 +197,7 @@ pub(crate) fn point(top: &Top, seat: &mut Chair, files: usize, range: usize) -> 
     ensures held { HeldIn seat.old.me.0.mine range result }
     ensures deed { DoesAt (look range) (aimed seat.old.me.0.noted range result) (λ c. result ≡ target_in c.window range) seat.old seat.new }
 {
-    unpack_map(top.load::<Point>(seat, files + 2 * range + 2))
+    unpack_map(top.load::<Point>(seat, 8 * files + 8 * range + 9))
 }
 
 // A load that notes something.

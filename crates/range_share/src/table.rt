@@ -45,7 +45,7 @@ impl Model for RangeTable {
 
     ghost view = { λ t. t.table.shared.table_id };
 
-    ghost invariant = { λ t. (t.table.shared.table_id.words ≡ t.sizes.files + 2 * t.sizes.ranges + 1) × (t.table.shared.table_id.slots ≡ t.sizes.files) × (t.sizes.files ≤ 64) × (t.sizes.ranges ≤ 256) };
+    ghost invariant = { λ t. (t.table.shared.table_id.words ≡ 8 * t.sizes.files + 8 * t.sizes.ranges + 8) × (t.table.shared.table_id.slots ≡ t.sizes.files) × (t.sizes.files ≤ 64) × (t.sizes.ranges ≤ 256) };
 }
 
 /// A guest's token on a table. It has the tree of the file whose tree it has.
@@ -114,7 +114,7 @@ impl RangePass {
     pub fn sound(&self)
         ensures showing { IsShowing self.now.view }
         ensures noted { (r : ℕ) → 0 < pins_on r self.now.view.mine.shown.pins → IsPinNoted self.now.view r }
-        ensures sizes { (self.now.table.words ≡ self.now.table.slots + 2 * ranges_of self.now.view + 1) × (files_of self.now.view ≡ self.now.table.slots) × (self.now.table.slots ≤ 64) × (ranges_of self.now.view ≤ 256) }
+        ensures sizes { (self.now.table.words ≡ 8 * self.now.table.slots + 8 * ranges_of self.now.view + 8) × (files_of self.now.view ≡ self.now.table.slots) × (self.now.table.slots ≤ 64) × (ranges_of self.now.view ≤ 256) }
     {
         let _ = &self.guest;
     }
@@ -455,7 +455,7 @@ impl RangeTable {
 
     /// How many ranges there are.
     pub fn ranges(&self) -> u32
-        ensures { self.now.words ≡ self.now.slots + 2 * result + 1 }
+        ensures { self.now.words ≡ 8 * self.now.slots + 8 * result + 8 }
     {
         self.sizes.ranges
     }
