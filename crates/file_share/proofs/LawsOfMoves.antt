@@ -58,7 +58,7 @@ module _ (g : ℕ) (R : FileState → Row) where
 
   pub words_frame : (ws : List ℕ) (c : Core) → ((f : ℕ) → f < length c.files → leases (changed (file c.files f)) ≡ leases (file c.files f)) → ShowsWords ws c → ShowsWords ws (record c { files = map changed c.files })
   words_frame ws c same w = let long = length-map c.files changed in record {
-    wide = w.wide ∙ ap (λ m. 3 * m + 1) (sym long);
+    wide = w.wide ∙ ap (λ m. 16 * m + 1) (sym long);
     each = λ f near. let near' : f < length c.files = omega arith in subst (ShowsFile ws f) (sym (file_changed c.files f)) (file_words ws f (file c.files f) (same f near') (w.each f near'));
   }
 

@@ -92,16 +92,16 @@ module _ (slots id : ℕ) (me : Us) (f : ℕ) (live : me.0.live ≡ true) (insid
     }
 
   pub takes_lease : (old : ℕ) → old < 65536 → me.0.guest < me.0.mine.leasers → (part me.0 f).leases < 64
-      → Allows (Shows files_kit) slots id me (3 * f + 3) (λ n. either (eqb n old) (old + 1) n) (tries_lease (step slots (3 * f + 3) old (old + 1) none) me)
+      → Allows (Shows files_kit) slots id me (16 * f + 3) (λ n. either (eqb n old) (old + 1) n) (tries_lease (step slots (16 * f + 3) old (old + 1) none) me)
   takes_lease old lo may few s r deep at low =
       let c : FileState = file r.core.files f in
-      let n : ℕ = get_or s.words (3 * f + 3) 0 in
+      let n : ℕ = get_or s.words (16 * f + 3) 0 in
       let near' = near slots id me f live inside s r deep at in
       let word : n ≡ lease_word c = (r.words.each f near').lease in
       let counts : leases (made c me.0.guest lease) + (row c me.0.guest).leases ≡ leases c + ((row c me.0.guest).leases + 1) = leases_set c me.0.guest (leased (row c me.0.guest)) (rows_in slots id me f live inside s r deep at) in
       let mine_is = own_leases s r deep at in
       let may_is : me.0.mine.leasers ≡ r.core.leasers = leasers_is me.0 r.core (part_of slots id me f live inside s r deep at) in
-      exchanged files_kit files_laws s r (3 * f + 3) old (old + 1) id me at me.0.noted (tries_lease (step slots (3 * f + 3) old (old + 1) none) me)
+      exchanged files_kit files_laws s r (16 * f + 3) old (old + 1) id me at me.0.noted (tries_lease (step slots (16 * f + 3) old (old + 1) none) me)
       (λ hit. let bare : c.bar ≡ None = no_number c.bar (omega arith) in
       let ok : MayDo r.core me.0.guest (on f lease) = record { allowed = record { known = near'; may = (bare, omega arith); freely = tt }; leaser = omega arith } in
       let x = file_event slots id me f live inside s r deep at 3 (old + 1) lease ok Always tt (omega arith) (omega arith)
@@ -109,10 +109,10 @@ module _ (slots id : ℕ) (me : Us) (f : ℕ) (live : me.0.live ≡ true) (insid
       (x.0, x.1, x.2, x.3, for_file (λ i. (n ≡ old → DoesOn i lease Always me.0 x.0 × (carried_after me.1 x.1 ≡ me.1)) × (n ≢ old → (x.0, carried_after me.1 x.1) ≡ me)) f 3 (leased_then n old f me (x.0, carried_after me.1 x.1) hit x.4)))
       (λ miss i e. ((λ z. absurd (miss z)), λ _. refl))
 
-  pub gives_lease : 0 < (part me.0 f).leases → Allows (Shows files_kit) slots id me (3 * f + 3) (λ n. (n + (2 ^ 64 - 1)) % 2 ^ 64) (drops_lease (step slots (3 * f + 3) 1 0 none) me)
+  pub gives_lease : 0 < (part me.0 f).leases → Allows (Shows files_kit) slots id me (16 * f + 3) (λ n. (n + (2 ^ 64 - 1)) % 2 ^ 64) (drops_lease (step slots (16 * f + 3) 1 0 none) me)
   gives_lease had s r deep at low =
       let c : FileState = file r.core.files f in
-      let n : ℕ = get_or s.words (3 * f + 3) 0 in
+      let n : ℕ = get_or s.words (16 * f + 3) 0 in
       let near' = near slots id me f live inside s r deep at in
       let word : n ≡ lease_word c = (r.words.each f near').lease in
       let c' : FileState = made c me.0.guest unlease in
@@ -126,16 +126,16 @@ module _ (slots id : ℕ) (me : Us) (f : ℕ) (live : me.0.live ≡ true) (insid
       (in_lease_word slots id me f live inside s r deep at c' ((n + (2 ^ 64 - 1)) % 2 ^ 64) refl refl now) refl in
       (x.0, x.1, x.2, x.3, for_file (λ i. DoesOn i unlease Always me.0 x.0 × (carried_after me.1 x.1 ≡ me.1)) f 3 x.4)
 
-  pub takes_bar : (g : ℕ) → g ≡ me.0.guest → NoBar me.0 → Allows (Shows files_kit) slots id me (3 * f + 3) (λ n. either (eqb n 0) ((g + 1) * 65536) n) (tries_bar (step slots (3 * f + 3) 0 ((g + 1) * 65536) none) me)
+  pub takes_bar : (g : ℕ) → g ≡ me.0.guest → NoBar me.0 → Allows (Shows files_kit) slots id me (16 * f + 3) (λ n. either (eqb n 0) ((g + 1) * 65536) n) (tries_bar (step slots (16 * f + 3) 0 ((g + 1) * 65536) none) me)
   takes_bar g is unbarred s r deep at low =
       let c : FileState = file r.core.files f in
-      let n : ℕ = get_or s.words (3 * f + 3) 0 in
+      let n : ℕ = get_or s.words (16 * f + 3) 0 in
       let near' = near slots id me f live inside s r deep at in
       let word : n ≡ lease_word c = (r.words.each f near').lease in
       let few = few_leases s r deep at in
       let count : leases c ≡ n % 65536 = omega arith in
       dite (ℕ_discrete (n % 65536) 0)
-      (λ none_left. exchanged files_kit files_laws s r (3 * f + 3) 0 ((g + 1) * 65536) id me at me.0.noted (tries_bar (step slots (3 * f + 3) 0 ((g + 1) * 65536) none) me)
+      (λ none_left. exchanged files_kit files_laws s r (16 * f + 3) 0 ((g + 1) * 65536) id me at me.0.noted (tries_bar (step slots (16 * f + 3) 0 ((g + 1) * 65536) none) me)
       (λ hit. let bare : c.bar ≡ None = no_number c.bar (omega arith) in
       let ok : MayDo r.core me.0.guest (on f set_bar) = record { allowed = record { known = near'; may = (bare, count ∙ none_left); freely = barless me.0 r.core (part_of slots id me f live inside s r deep at) unbarred }; leaser = tt } in
       let x = file_event slots id me f live inside s r deep at 3 ((g + 1) * 65536) set_bar ok Always tt (omega arith) (omega arith)
@@ -148,15 +148,15 @@ module _ (slots id : ℕ) (me : Us) (f : ℕ) (live : me.0.live ≡ true) (insid
             (barred_then n f me (x.0, carried_after me.1 x.1) hit none_left x.4),
       ))
       (λ miss i e. ((λ z. absurd (miss z)), (λ some. absurd (omega arith)), λ _ _. refl)))
-      (λ leased_now. exchanged files_kit files_laws s r (3 * f + 3) 0 ((g + 1) * 65536) id me at (refused me.0 f (n % 65536)).noted (tries_bar (step slots (3 * f + 3) 0 ((g + 1) * 65536) none) me)
+      (λ leased_now. exchanged files_kit files_laws s r (16 * f + 3) 0 ((g + 1) * 65536) id me at (refused me.0 f (n % 65536)).noted (tries_bar (step slots (16 * f + 3) 0 ((g + 1) * 65536) none) me)
       (λ hit. absurd (leased_now (omega arith)))
       (λ miss. for_file (λ i. Barring n i me (refused me.0 f (n % 65536), me.1)) f 3
       (refused_then n f me (refused me.0 f (n % 65536), me.1) miss leased_now (subst (Counts me.0 f) count (counted s r deep at)) refl)))
 
-  pub gives_bar : (part me.0 f).bar ≡ true → Allows (Shows files_kit) slots id me (3 * f + 3) (λ n. bit_and n 65535) (drops_bar (step slots (3 * f + 3) 65535 0 none) me)
+  pub gives_bar : (part me.0 f).bar ≡ true → Allows (Shows files_kit) slots id me (16 * f + 3) (λ n. bit_and n 65535) (drops_bar (step slots (16 * f + 3) 65535 0 none) me)
   gives_bar had s r deep at low =
       let c : FileState = file r.core.files f in
-      let n : ℕ = get_or s.words (3 * f + 3) 0 in
+      let n : ℕ = get_or s.words (16 * f + 3) 0 in
       let near' = near slots id me f live inside s r deep at in
       let word : n ≡ lease_word c = (r.words.each f near').lease in
       let few = few_leases s r deep at in

@@ -18,5 +18,6 @@ pub mod Sounding
 pub mod Calling
 pub mod Coming
 pub mod Applying
+pub mod Rereading
 pub mod TestTurns
 pub mod TestLeases

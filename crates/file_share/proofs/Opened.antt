@@ -16,7 +16,7 @@ use Rattle.files_core.specs.Files.{FileState, blank, row, file, leases_of, lease
 use Rattle.files_core.specs.Shown.{shown_of, shown}
 use Rattle.files_core.proofs.Starts.{files_start}
 use Rattle.file_share.specs.Table.{Core, new_core, ShowsFile, number_of, home, Mine, mine, unseen, nothing_of, all_unseen, files_kit, opener}
-use Rattle.file_share.specs.Known.{start_words, start_body}
+use Rattle.file_share.specs.Known.{file_words, start_words, start_body}
 use Rattle.file_share.proofs.Laws.{files_laws}
 
 get_replicate : {A : Type 0} (n i : ℕ) (x : A) → get_or (replicate n x) i x ≡ x
@@ -47,21 +47,23 @@ homes_are : (firsts : List First) → map some (map start_body firsts) ≡ map h
 homes_are [] = refl
 homes_are (x ∷ xs) = ap (λ l. some (start_body x) ∷ l) (homes_are xs)
 
-wide_is : (firsts : List First) → length (start_words firsts) ≡ 3 * length (new_files guests firsts)
+wide_is : (firsts : List First) → length (start_words firsts) ≡ 16 * length (new_files guests firsts)
 wide_is [] = refl
 wide_is (x ∷ xs) = let e = wide_is xs in omega arith
 
--- the three words of a file, from the place where they begin
-word_at : (firsts : List First) (f : ℕ) → f < length firsts → (get_or (start_words firsts) (3 * f) 0 ≡ 0) × (get_or (start_words firsts) (3 * f + 1) 0 ≡ (file (new_files guests firsts) f).size) × (get_or (start_words firsts) (3 * f + 2) 0 ≡ 0)
+-- the same word of the next file
+abbrev next_file : ℕ → ℕ
+next_file n = suc (suc (suc (suc (suc (suc (suc (suc (suc (suc (suc (suc (suc (suc (suc (suc n)))))))))))))))
+
+-- the three words of a file that are used, from the place where they begin
+word_at : (firsts : List First) (f : ℕ) → f < length firsts → (get_or (start_words firsts) (16 * f) 0 ≡ 0) × (get_or (start_words firsts) (16 * f + 1) 0 ≡ (file (new_files guests firsts) f).size) × (get_or (start_words firsts) (16 * f + 2) 0 ≡ 0)
 word_at [] f l = absurd (omega arith)
 word_at (x ∷ xs) zero l = (refl, refl, refl)
 word_at (x ∷ xs) (suc f) l = let e = word_at xs f (omega arith) in
-    let a : suc (suc (suc (3 * f))) ≡ 3 * suc f = omega arith in
-    let b : suc (suc (suc (3 * f + 1))) ≡ 3 * suc f + 1 = omega arith in
-    let c : suc (suc (suc (3 * f + 2))) ≡ 3 * suc f + 2 = omega arith in (
-      ap (λ n. get_or (start_words (x ∷ xs)) n 0) (sym a) ∙ e.0,
-      ap (λ n. get_or (start_words (x ∷ xs)) n 0) (sym b) ∙ e.1,
-      ap (λ n. get_or (start_words (x ∷ xs)) n 0) (sym c) ∙ e.2,
+    let past : (n m : ℕ) → next_file n ≡ m → get_or (start_words xs) n 0 ≡ get_or (start_words (x ∷ xs)) m 0 = λ n m is. ap (λ k. get_or (start_words (x ∷ xs)) k 0) is in (
+      sym (past (16 * f) (16 * suc f) (omega arith)) ∙ e.0,
+      sym (past (16 * f + 1) (16 * suc f + 1) (omega arith)) ∙ e.1,
+      sym (past (16 * f + 2) (16 * suc f + 2) (omega arith)) ∙ e.2,
     )
 
 new_at : (firsts : List First) (f : ℕ) → f < length firsts → (x : First) × (file (new_files guests firsts) f ≡ new_file guests x)
@@ -71,9 +73,9 @@ new_at (x ∷ xs) (suc f) l = new_at xs f (omega arith)
 
 shows_start : (firsts : List First) (f : ℕ) → f < length firsts → ShowsFile (0 ∷ start_words firsts) f (file (new_files guests firsts) f)
 shows_start firsts f l = let w = word_at firsts f l in let n = new_at firsts f l in
-    let a : suc (3 * f) ≡ 3 * f + 1 = omega arith in
-    let b : suc (3 * f + 1) ≡ 3 * f + 2 = omega arith in
-    let d : suc (3 * f + 2) ≡ 3 * f + 3 = omega arith in record {
+    let a : suc (16 * f) ≡ 16 * f + 1 = omega arith in
+    let b : suc (16 * f + 1) ≡ 16 * f + 2 = omega arith in
+    let d : suc (16 * f + 2) ≡ 16 * f + 3 = omega arith in record {
       turn = ap (λ n. get_or (0 ∷ start_words firsts) n 0) (sym a) ∙ (w.0 ∙ sym (ap (λ (x : FileState). number_of x.turn) n.1));
       size = ap (λ n. get_or (0 ∷ start_words firsts) n 0) (sym b) ∙ w.1;
       lease = ap (λ n. get_or (0 ∷ start_words firsts) n 0) (sym d) ∙ (w.2 ∙ sym (ap (λ (x : FileState). leases x + 65536 * number_of x.bar) n.1 ∙ ap (λ (z : ℕ). z + 65536 * 0) (no_leases guests)));
@@ -91,14 +93,14 @@ opens_files firsts leasers words slots small is is' = let c : Core = new_core fi
     (λ n. starts_unseen n firsts leasers))
 
 -- the words of one file more
-one_more : (xs : List First) (x : First) → start_words (xs ++ x ∷ []) ≡ start_words xs ++ 0 ∷ x.size ∷ 0 ∷ []
+one_more : (xs : List First) (x : First) → start_words (xs ++ x ∷ []) ≡ start_words xs ++ file_words x.size
 one_more [] x = refl
-one_more (y ∷ ys) x = ap (λ l. 0 ∷ y.size ∷ 0 ∷ l) (one_more ys x)
+one_more (y ∷ ys) x = ap (λ l. file_words y.size ++ l) (one_more ys x)
 
-pub words_count : (firsts : List First) → length (0 ∷ start_words firsts) ≡ 3 * length firsts + 1
+pub words_count : (firsts : List First) → length (0 ∷ start_words firsts) ≡ 16 * length firsts + 1
 words_count [] = refl
 words_count (x ∷ xs) = let e = words_count xs in omega arith
 
-pub start_more : (firsts : List First) (i : ℕ) (d : First) → i < length firsts → (ws : List ℕ) → ws ≡ 0 ∷ start_words (take i firsts) → ws ++ 0 ∷ (get_or firsts i d).size ∷ 0 ∷ [] ≡ 0 ∷ start_words (take (i + 1) firsts)
-start_more firsts i d l ws is = ap (λ (z : List ℕ). z ++ 0 ∷ (get_or firsts i d).size ∷ 0 ∷ []) is
+pub start_more : (firsts : List First) (i : ℕ) (d : First) → i < length firsts → (ws : List ℕ) → ws ≡ 0 ∷ start_words (take i firsts) → ws ++ file_words (get_or firsts i d).size ≡ 0 ∷ start_words (take (i + 1) firsts)
+start_more firsts i d l ws is = ap (λ (z : List ℕ). z ++ file_words (get_or firsts i d).size) is
     ∙ (ap (λ (z : List ℕ). 0 ∷ z) (sym (one_more (take i firsts) (get_or firsts i d))) ∙ ap (λ (z : List First). 0 ∷ start_words z) (sym (take_more firsts i d l)))

@@ -29,7 +29,7 @@ use Rattle.file_share.proofs.Accounts.{never_of, accounted}
 abbrev pub St : Type 0
 St = State (Option Past) Knows
 
-pub for_file : (F : ℕ → Type 0) (f k : ℕ) → F f → (f' : ℕ) → 3 * f + k ≡ 3 * f' + k → F f'
+pub for_file : (F : ℕ → Type 0) (f k : ℕ) → F f → (f' : ℕ) → 16 * f + k ≡ 16 * f' + k → F f'
 for_file F f k a f' e = let same : f ≡ f' = omega arith in subst F same a
 
 -- a number of 0 is nobody's
@@ -52,7 +52,7 @@ module _ (slots id : ℕ) (me : Us) (f : ℕ) (live : me.0.live ≡ true) (insid
     home_at : get_elem? s.homes f ≡ some (home (file r.core.files f))
     home_at = ap (λ l. get_elem? l f) r.homes_are ∙ at_map home r.core.files f (file r.core.files f) (at_file r.core.files f near)
 
-    pub word_in : (k : ℕ) → 0 < k → k < 4 → 3 * f + k < length s.words
+    pub word_in : (k : ℕ) → 0 < k → k < 4 → 16 * f + k < length s.words
     word_in k lo hi = let w = r.words.wide in let m = many in omega arith
 
     pub small : me.0.guest < guests
@@ -69,37 +69,37 @@ module _ (slots id : ℕ) (me : Us) (f : ℕ) (live : me.0.live ≡ true) (insid
     lease_same x e = ap (λ (z : ℕ). z + 65536 * number_of (file r.core.files f).bar) (same_leases (file r.core.files f) me.0.guest x rows_in e)
 
     -- the words where one of the file's was changed
-    in_turn_word : (c' : FileState) (n : ℕ) → turn_word c' ≡ n → size_word c' ≡ size_word (file r.core.files f) → lease_word c' ≡ lease_word (file r.core.files f) → ShowsFile (set s.words (3 * f + 1) n) f c'
+    in_turn_word : (c' : FileState) (n : ℕ) → turn_word c' ≡ n → size_word c' ≡ size_word (file r.core.files f) → lease_word c' ≡ lease_word (file r.core.files f) → ShowsFile (set s.words (16 * f + 1) n) f c'
     in_turn_word c' n a b d = let w = r.words.each f near in record {
-      turn = get_or-set_same s.words (3 * f + 1) n 0 (word_in 1 (omega arith) (omega arith)) ∙ sym a;
-      size = get_or-set_other s.words (3 * f + 1) (3 * f + 2) n 0 (λ e. omega arith) ∙ (w.size ∙ sym b);
-      lease = get_or-set_other s.words (3 * f + 1) (3 * f + 3) n 0 (λ e. omega arith) ∙ (w.lease ∙ sym d);
+      turn = get_or-set_same s.words (16 * f + 1) n 0 (word_in 1 (omega arith) (omega arith)) ∙ sym a;
+      size = get_or-set_other s.words (16 * f + 1) (16 * f + 2) n 0 (λ e. omega arith) ∙ (w.size ∙ sym b);
+      lease = get_or-set_other s.words (16 * f + 1) (16 * f + 3) n 0 (λ e. omega arith) ∙ (w.lease ∙ sym d);
     }
 
-    in_size_word : (c' : FileState) (n : ℕ) → turn_word c' ≡ turn_word (file r.core.files f) → size_word c' ≡ n → lease_word c' ≡ lease_word (file r.core.files f) → ShowsFile (set s.words (3 * f + 2) n) f c'
+    in_size_word : (c' : FileState) (n : ℕ) → turn_word c' ≡ turn_word (file r.core.files f) → size_word c' ≡ n → lease_word c' ≡ lease_word (file r.core.files f) → ShowsFile (set s.words (16 * f + 2) n) f c'
     in_size_word c' n a b d = let w = r.words.each f near in record {
-      turn = get_or-set_other s.words (3 * f + 2) (3 * f + 1) n 0 (λ e. omega arith) ∙ (w.turn ∙ sym a);
-      size = get_or-set_same s.words (3 * f + 2) n 0 (word_in 2 (omega arith) (omega arith)) ∙ sym b;
-      lease = get_or-set_other s.words (3 * f + 2) (3 * f + 3) n 0 (λ e. omega arith) ∙ (w.lease ∙ sym d);
+      turn = get_or-set_other s.words (16 * f + 2) (16 * f + 1) n 0 (λ e. omega arith) ∙ (w.turn ∙ sym a);
+      size = get_or-set_same s.words (16 * f + 2) n 0 (word_in 2 (omega arith) (omega arith)) ∙ sym b;
+      lease = get_or-set_other s.words (16 * f + 2) (16 * f + 3) n 0 (λ e. omega arith) ∙ (w.lease ∙ sym d);
     }
 
-    pub in_lease_word : (c' : FileState) (n : ℕ) → turn_word c' ≡ turn_word (file r.core.files f) → size_word c' ≡ size_word (file r.core.files f) → lease_word c' ≡ n → ShowsFile (set s.words (3 * f + 3) n) f c'
+    pub in_lease_word : (c' : FileState) (n : ℕ) → turn_word c' ≡ turn_word (file r.core.files f) → size_word c' ≡ size_word (file r.core.files f) → lease_word c' ≡ n → ShowsFile (set s.words (16 * f + 3) n) f c'
     in_lease_word c' n a b d = let w = r.words.each f near in record {
-      turn = get_or-set_other s.words (3 * f + 3) (3 * f + 1) n 0 (λ e. omega arith) ∙ (w.turn ∙ sym a);
-      size = get_or-set_other s.words (3 * f + 3) (3 * f + 2) n 0 (λ e. omega arith) ∙ (w.size ∙ sym b);
-      lease = get_or-set_same s.words (3 * f + 3) n 0 (word_in 3 (omega arith) (omega arith)) ∙ sym d;
+      turn = get_or-set_other s.words (16 * f + 3) (16 * f + 1) n 0 (λ e. omega arith) ∙ (w.turn ∙ sym a);
+      size = get_or-set_other s.words (16 * f + 3) (16 * f + 2) n 0 (λ e. omega arith) ∙ (w.size ∙ sym b);
+      lease = get_or-set_same s.words (16 * f + 3) n 0 (word_in 3 (omega arith) (omega arith)) ∙ sym d;
     }
 
     -- the other files' words are as they were
-    pub put_file : (k n : ℕ) (d : Deed) → 0 < k → k < 4 → ShowsFile (set s.words (3 * f + k) n) f (made (file r.core.files f) me.0.guest d) → ShowsWords (set s.words (3 * f + k) n) (done r.core me.0.guest (on f d))
+    pub put_file : (k n : ℕ) (d : Deed) → 0 < k → k < 4 → ShowsFile (set s.words (16 * f + k) n) f (made (file r.core.files f) me.0.guest d) → ShowsWords (set s.words (16 * f + k) n) (done r.core me.0.guest (on f d))
     put_file k n d lo hi now = let cs : List FileState = r.core.files in let c' : FileState = made (file cs f) me.0.guest d in record {
-      wide = length-set s.words (3 * f + k) n ∙ (r.words.wide ∙ ap (λ (z : ℕ). 3 * z + 1) (sym (length-set cs f c')));
+      wide = length-set s.words (16 * f + k) n ∙ (r.words.wide ∙ ap (λ (z : ℕ). 16 * z + 1) (sym (length-set cs f c')));
       each = λ i l. dite (ℕ_discrete i f)
-          (λ e. subst (λ (j : ℕ). ShowsFile (set s.words (3 * f + k) n) j (file (set cs f c') j)) (sym e) (subst (ShowsFile (set s.words (3 * f + k) n) f) (sym (get_or-set_same cs f c' _ near)) now))
-          (λ ne. let w = r.words.each i (let same = length-set cs f c' in omega arith) in subst (ShowsFile (set s.words (3 * f + k) n) i) (sym (get_or-set_other cs f i c' _ ne)) record {
-            turn = get_or-set_other s.words (3 * f + k) (3 * i + 1) n 0 (λ e. ne (omega arith)) ∙ w.turn;
-            size = get_or-set_other s.words (3 * f + k) (3 * i + 2) n 0 (λ e. ne (omega arith)) ∙ w.size;
-            lease = get_or-set_other s.words (3 * f + k) (3 * i + 3) n 0 (λ e. ne (omega arith)) ∙ w.lease;
+          (λ e. subst (λ (j : ℕ). ShowsFile (set s.words (16 * f + k) n) j (file (set cs f c') j)) (sym e) (subst (ShowsFile (set s.words (16 * f + k) n) f) (sym (get_or-set_same cs f c' _ near)) now))
+          (λ ne. let w = r.words.each i (let same = length-set cs f c' in omega arith) in subst (ShowsFile (set s.words (16 * f + k) n) i) (sym (get_or-set_other cs f i c' _ ne)) record {
+            turn = get_or-set_other s.words (16 * f + k) (16 * i + 1) n 0 (λ e. ne (omega arith)) ∙ w.turn;
+            size = get_or-set_other s.words (16 * f + k) (16 * i + 2) n 0 (λ e. ne (omega arith)) ∙ w.size;
+            lease = get_or-set_other s.words (16 * f + k) (16 * i + 3) n 0 (λ e. ne (omega arith)) ∙ w.lease;
           });
     }
 
@@ -114,10 +114,10 @@ module _ (slots id : ℕ) (me : Us) (f : ℕ) (live : me.0.live ≡ true) (insid
     allow d ok may = record { allowed = ok; leaser = may }
 
     -- a deed that moves no contents
-    pub file_event : (k n : ℕ) (d : Deed) → MayDo r.core me.0.guest (on f d) → (P : Core → Type 0) → P r.core → 0 < k → k < 4 → ShowsFile (set s.words (3 * f + k) n) f (made (file r.core.files f) me.0.guest d)
+    pub file_event : (k n : ℕ) (d : Deed) → MayDo r.core me.0.guest (on f d) → (P : Core → Type 0) → P r.core → 0 < k → k < 4 → ShowsFile (set s.words (16 * f + k) n) f (made (file r.core.files f) me.0.guest d)
         → home (made (file r.core.files f) me.0.guest d) ≡ home (file r.core.files f)
-        → (w : Knows) × (a : Act (Option Past)) × Valid s.homes me.1 a × Shows files_kit (stepped s (3 * f + k) n id me.1 w a) × (DoesOn f d P me.0 w × (carried_after me.1 a ≡ me.1))
-    file_event k n d ok P p lo hi now same = event files_kit files_laws s r (3 * f + k) n id me at live (on f d) ok me.0.noted P p (put_file k n d lo hi now) (homes_same (made (file r.core.files f) me.0.guest d) same)
+        → (w : Knows) × (a : Act (Option Past)) × Valid s.homes me.1 a × Shows files_kit (stepped s (16 * f + k) n id me.1 w a) × (DoesOn f d P me.0 w × (carried_after me.1 a ≡ me.1))
+    file_event k n d ok P p lo hi now same = event files_kit files_laws s r (16 * f + k) n id me at live (on f d) ok me.0.noted P p (put_file k n d lo hi now) (homes_same (made (file r.core.files f) me.0.guest d) same)
 
     -- ---- whose the entries are
 
@@ -136,16 +136,16 @@ module _ (slots id : ℕ) (me : Us) (f : ℕ) (live : me.0.live ≡ true) (insid
         let known = accounted r.core me.0.numbers (ap length numbers ∙ r.roster.all) r.good (all_back files_kit files_laws s r id me.0 at live all.0 all.1) f near idle in
         (known.0 ∙ ap (λ (m : Mine). (in_list m.files f).seen) (sym (part_of ∙ ap (λ n. mine n r.core) all.0)), known.1)
 
-  pub takes_turn : (g : ℕ) → g ≡ me.0.guest → NoTurn me.0 → Allows (Shows files_kit) slots id me (3 * f + 1) (λ n. either (eqb n 0) (g + 1) n) (tries_turn (step slots (3 * f + 1) 0 (g + 1) none) me)
+  pub takes_turn : (g : ℕ) → g ≡ me.0.guest → NoTurn me.0 → Allows (Shows files_kit) slots id me (16 * f + 1) (λ n. either (eqb n 0) (g + 1) n) (tries_turn (step slots (16 * f + 1) 0 (g + 1) none) me)
   takes_turn g is idle s r deep at low =
       let c : FileState = file r.core.files f in
-      let n : ℕ = get_or s.words (3 * f + 1) 0 in
+      let n : ℕ = get_or s.words (16 * f + 1) 0 in
       let near' = near s r deep at in
       let word : n ≡ turn_word c = (r.words.each f near').turn in
       let w : Knows = seeing files_kit me.0 (on f take_turn) (done r.core me.0.guest (on f take_turn)) me.0.noted in
       let c' : FileState = made c me.0.guest take_turn in
       let m' : Us = (w, (f, Some (past_of c)) ∷ me.1) in
-      exchanged files_kit files_laws s r (3 * f + 1) 0 (g + 1) id me at me.0.noted (tries_turn (step slots (3 * f + 1) 0 (g + 1) none) me)
+      exchanged files_kit files_laws s r (16 * f + 1) 0 (g + 1) id me at me.0.noted (tries_turn (step slots (16 * f + 1) 0 (g + 1) none) me)
       (λ hit. let empty : c.turn ≡ None = no_number c.turn (sym word ∙ hit) in
       let ok : MayDo r.core me.0.guest (on f take_turn) = record { allowed = record { known = near'; may = empty; freely = turnless me.0 r.core (part_of s r deep at) idle }; leaser = tt } in
       let home_is : home c ≡ some (Some (past_of c)) = ap (λ (o : Option ℕ). at_home o (past_of c)) empty in
@@ -153,7 +153,7 @@ module _ (slots id : ℕ) (me : Us) (f : ℕ) (live : me.0.live ≡ true) (insid
         w,
         takes f (Some (past_of c)),
         home_at s r deep at ∙ ap some home_is,
-        moved files_kit files_laws s r id me.0 at live (on f take_turn) ok me.0.noted (set s.words (3 * f + 1) (g + 1)) (set s.homes f none)
+        moved files_kit files_laws s r id me.0 at live (on f take_turn) ok me.0.noted (set s.words (16 * f + 1) (g + 1)) (set s.homes f none)
             (put_file s r deep at 1 (g + 1) take_turn (omega arith) (omega arith) (in_turn_word s r deep at c' (g + 1) (ap (λ (z : ℕ). z + 1) (sym is)) refl (lease_same s r deep at (entered (length c.history) (row c me.0.guest)) refl)))
             (sym (homes_put s r deep at c')),
         for_file (λ i. (n ≡ 0 → DoesOn i take_turn (Takes i me m') me.0 w) × (n ≢ 0 → m' ≡ me)) f 1
@@ -163,7 +163,7 @@ module _ (slots id : ℕ) (me : Us) (f : ℕ) (live : me.0.live ≡ true) (insid
 
   pub sets_size : (e : Entry) (z : ℕ) → (part me.0 f).turn ≡ true → (part me.0 f).applied ≡ None → e.guest ≡ me.0.guest → reach e.op ≤ max_file → z ≡ size_of (first_at me.0 f) ((part me.0 f).seen ++ e ∷ [])
       → (z < size_of (first_at me.0 f) (part me.0 f).seen → (part me.0 f).bar ≡ true)
-      → Allows (Shows files_kit) slots id me (3 * f + 2) (λ _. z) (λ _. sets e (step slots (3 * f + 2) z 0 none) me z)
+      → Allows (Shows files_kit) slots id me (16 * f + 2) (λ _. z) (λ _. sets e (step slots (16 * f + 2) z 0 none) me z)
   sets_size e z t none_yet own fits size safe s r deep at low =
       let c : FileState = file r.core.files f in
       let near' = near s r deep at in
@@ -179,10 +179,10 @@ module _ (slots id : ℕ) (me : Us) (f : ℕ) (live : me.0.live ≡ true) (insid
       let x = file_event s r deep at 2 z (set_size e) ok Always tt (omega arith) (omega arith) (in_size_word s r deep at (made c me.0.guest (set_size e)) z refl now refl) refl in
       (x.0, x.1, x.2, x.3, for_file (λ i. DoesOn i (set_size e) Always me.0 x.0 × (carried_after me.1 x.1 ≡ me.1)) f 2 x.4)
 
-  pub notes : Allows (Shows files_kit) slots id me (3 * f + 2) (λ n. n) (notes_size (step slots (3 * f + 2) 0 0 none) me)
+  pub notes : Allows (Shows files_kit) slots id me (16 * f + 2) (λ n. n) (notes_size (step slots (16 * f + 2) 0 0 none) me)
   notes s r deep at low =
       let c : FileState = file r.core.files f in
-      let n : ℕ = get_or s.words (3 * f + 2) 0 in
+      let n : ℕ = get_or s.words (16 * f + 2) 0 in
       let near' = near s r deep at in
       let word : n ≡ c.size = (r.words.each f near').size in
       let ok : MayDo r.core me.0.guest (on f note_size) = record { allowed = record { known = near'; may = tt; freely = tt }; leaser = tt } in
@@ -192,7 +192,7 @@ module _ (slots id : ℕ) (me : Us) (f : ℕ) (live : me.0.live ≡ true) (insid
 
   -- the contents that go home are the whole
   pub gives_back : (p : Past) (cs : List (ℕ × Option Past)) → (part me.0 f).turn ≡ true → p.first ≡ first_at me.0 f → p.history ≡ with_entry (part me.0 f).seen (part me.0 f).applied → me.1 ≡ (f, Some p) ∷ cs
-      → Allows (Shows files_kit) slots id me (3 * f + 1) (λ _. 0) (λ _. gives_turn (step slots (3 * f + 1) 0 0 none) me 0)
+      → Allows (Shows files_kit) slots id me (16 * f + 1) (λ _. 0) (λ _. gives_turn (step slots (16 * f + 1) 0 0 none) me 0)
   gives_back p cs t begins is held s r deep at low =
       let c : FileState = file r.core.files f in
       let c' : FileState = made c me.0.guest give_turn in
@@ -208,7 +208,7 @@ module _ (slots id : ℕ) (me : Us) (f : ℕ) (live : me.0.live ≡ true) (insid
         w,
         gives,
         tt,
-        moved files_kit files_laws s r id me.0 at live (on f give_turn) ok me.0.noted (set s.words (3 * f + 1) 0) (homes_after s.homes me.1 gives)
+        moved files_kit files_laws s r id me.0 at live (on f give_turn) ok me.0.noted (set s.words (16 * f + 1) 0) (homes_after s.homes me.1 gives)
             (put_file s r deep at 1 0 give_turn (omega arith) (omega arith) (in_turn_word s r deep at c' 0 refl refl (lease_same s r deep at (seen_to (length (whole c)) (row c me.0.guest)) refl)))
             (ap (put_back s.homes) held ∙ (ap (set s.homes f) (sym back) ∙ sym (homes_put s r deep at c'))),
         for_file (λ i. DoesOn i give_turn Always me.0 w × (rest me.1 ≡ rest me.1)) f 1 (record { core = r.core; good = r.good; part = parts; allowed = ok; is = refl; tells = tt }, refl),

@@ -24,6 +24,8 @@ use Rattle.files_core.specs.Shown.{Shown}
 use Rattle.file_share.specs.Table.{Knows, part, first_at, opener, just_seen, merged, Begun, Grown}
 use Rattle.file_share.specs.Steps.{Chair, DoesOn, Always, Never, Accounted, IfAllIn, Counts, NoTurn, refused}
 use Rattle.file_share.specs.Places.{places_of}
+use Rattle.file_share.specs.declared.marks.EntryMark.{EntryMark}
+use Rattle.file_share.specs.declared.marks.Marks.{Marks}
 
 -- the table that it belongs to, what it knows, and the call and way that its next entries carry
 pub record Known : Type 0 where
@@ -241,12 +243,42 @@ NoBar v = (f : ℕ) → (part v f).bar ≡ false
 abbrev pub IsIdle : Knows → Type 0
 IsIdle v = (f : ℕ) → ((part v f).turn ≡ false) × ((part v f).leases ≡ 0) × ((part v f).bar ≡ false)
 
+-- ---- a history that is read again
+
+-- whose call an entry was, and how it came
+abbrev pub mark_of : Entry → EntryMark
+mark_of e = record { guest = e.guest; call = e.call; way = e.way }
+
+-- they are those of the file as the pass has seen it
+abbrev pub AreMarksOf : Knows → ℕ → Marks → Type 0
+AreMarksOf v f m = (m.marks ≡ map mark_of (part v f).seen) × (m.size ≡ size_seen v f)
+
+-- The pass has no turn after it, and what it has seen and has in hand is as it was.
+pub record IsReread (p q : Known) : Type 0 where
+  pub table : q.table ≡ p.table
+  pub mark : q.mark ≡ p.mark
+  pub live : q.view.live ≡ p.view.live
+  pub guest : q.view.guest ≡ p.view.guest
+  pub noted : q.view.noted ≡ p.view.noted
+  pub numbers : q.view.numbers ≡ p.view.numbers
+  pub firsts : q.view.mine.firsts ≡ p.view.mine.firsts
+  pub leasers : q.view.mine.leasers ≡ p.view.mine.leasers
+  pub long : length q.view.mine.files ≡ length p.view.mine.files
+  pub seen : (f : ℕ) → (part q.view f).seen ≡ (part p.view f).seen
+  pub turns : NoTurn q.view
+  pub leases : (f : ℕ) → (part q.view f).leases ≡ (part p.view f).leases
+  pub bars : (f : ℕ) → (part q.view f).bar ≡ (part p.view f).bar
+
 -- ---- the table at its start
 
--- the words of files to which nothing was done yet
+-- the words of a file of this size to which nothing was done yet
+abbrev pub file_words : ℕ → List ℕ
+file_words size = 0 ∷ size ∷ replicate 14 0
+
+-- the words of such files
 abbrev pub start_words : List First → List ℕ
 start_words [] = []
-start_words (x ∷ xs) = 0 ∷ x.size ∷ 0 ∷ start_words xs
+start_words (x ∷ xs) = file_words x.size ++ start_words xs
 
 -- the contents that lie at home then
 abbrev pub start_body : First → Option Past

@@ -55,29 +55,29 @@ pub record Takes (f : ℕ) (m m' : Us) (c : Core) : Type 0 where
   pub account : IfAllIn m.0 f (past_of (file c.files f))
 
 abbrev pub tries_turn : At → Us → ℕ → Us → Type 0
-tries_turn st m found m' = (f : ℕ) → st.word ≡ 3 * f + 1 → (found ≡ 0 → DoesOn f take_turn (Takes f m m') m.0 m'.0) × (found ≢ 0 → m' ≡ m)
+tries_turn st m found m' = (f : ℕ) → st.word ≡ 16 * f + 1 → (found ≡ 0 → DoesOn f take_turn (Takes f m m') m.0 m'.0) × (found ≢ 0 → m' ≡ m)
 
 -- a store of the size word
 abbrev pub sets : Entry → At → Us → ℕ → Us → Type 0
-sets e st m found m' = (f : ℕ) → st.word ≡ 3 * f + 2 → DoesOn f (set_size e) Always m.0 m'.0 × (m'.1 ≡ m.1)
+sets e st m found m' = (f : ℕ) → st.word ≡ 16 * f + 2 → DoesOn f (set_size e) Always m.0 m'.0 × (m'.1 ≡ m.1)
 
 -- a store of 0 to the turn word, with which the contents go home
 abbrev pub gives_turn : At → Us → ℕ → Us → Type 0
-gives_turn st m found m' = (f : ℕ) → st.word ≡ 3 * f + 1 → DoesOn f give_turn Always m.0 m'.0 × (m'.1 ≡ rest m.1)
+gives_turn st m found m' = (f : ℕ) → st.word ≡ 16 * f + 1 → DoesOn f give_turn Always m.0 m'.0 × (m'.1 ≡ rest m.1)
 
 -- a load of the size word
 abbrev pub notes_size : At → Us → ℕ → Us → Type 0
-notes_size st m found m' = (f : ℕ) → st.word ≡ 3 * f + 2 → DoesOn f note_size (λ c. found ≡ (file c.files f).size) m.0 m'.0 × (m'.1 ≡ m.1)
+notes_size st m found m' = (f : ℕ) → st.word ≡ 16 * f + 2 → DoesOn f note_size (λ c. found ≡ (file c.files f).size) m.0 m'.0 × (m'.1 ≡ m.1)
 
 -- ---- leases and bars
 
 -- a compare and exchange of the lease word from a word without a bar to one lease more
 abbrev pub tries_lease : At → Us → ℕ → Us → Type 0
-tries_lease st m found m' = (f : ℕ) → st.word ≡ 3 * f + 3 → (found ≡ st.first → DoesOn f lease Always m.0 m'.0 × (m'.1 ≡ m.1)) × (found ≢ st.first → m' ≡ m)
+tries_lease st m found m' = (f : ℕ) → st.word ≡ 16 * f + 3 → (found ≡ st.first → DoesOn f lease Always m.0 m'.0 × (m'.1 ≡ m.1)) × (found ≢ st.first → m' ≡ m)
 
 -- one lease less
 abbrev pub drops_lease : At → Us → ℕ → Us → Type 0
-drops_lease st m found m' = (f : ℕ) → st.word ≡ 3 * f + 3 → DoesOn f unlease Always m.0 m'.0 × (m'.1 ≡ m.1)
+drops_lease st m found m' = (f : ℕ) → st.word ≡ 16 * f + 3 → DoesOn f unlease Always m.0 m'.0 × (m'.1 ≡ m.1)
 
 -- the leases that a lease word counts
 abbrev pub leases_in : ℕ → ℕ
@@ -99,14 +99,14 @@ pub record Counts (v : Knows) (f count : ℕ) : Type 0 where
 -- A compare and exchange of the lease word from 0 to the bar. Where leases were seen, the bar is refused and that is noted;
 -- where none were and another's bar, nothing has changed.
 abbrev pub tries_bar : At → Us → ℕ → Us → Type 0
-tries_bar st m found m' = (f : ℕ) → st.word ≡ 3 * f + 3
+tries_bar st m found m' = (f : ℕ) → st.word ≡ 16 * f + 3
     → (found ≡ 0 → DoesOn f set_bar Always m.0 m'.0 × (m'.1 ≡ m.1))
     × (0 < leases_in found → Counts m.0 f (leases_in found) × (m' ≡ (refused m.0 f (leases_in found), m.1)))
     × (found ≢ 0 → leases_in found ≡ 0 → m' ≡ m)
 
 -- the bar is given back
 abbrev pub drops_bar : At → Us → ℕ → Us → Type 0
-drops_bar st m found m' = (f : ℕ) → st.word ≡ 3 * f + 3 → DoesOn f clear_bar Always m.0 m'.0 × (m'.1 ≡ m.1)
+drops_bar st m found m' = (f : ℕ) → st.word ≡ 16 * f + 3 → DoesOn f clear_bar Always m.0 m'.0 × (m'.1 ≡ m.1)
 
 -- ---- after a join
 
@@ -129,7 +129,7 @@ Chair = Seat (Option Past) Knows
 -- a live seat of this table, which has this file
 pub record IsAt (t : TableId) (s : Chair) (f : ℕ) : Type 0 where
   pub same : s.table_id ≡ t
-  pub wide : t.words ≡ 3 * t.slots + 1
+  pub wide : t.words ≡ 16 * t.slots + 1
   pub few : t.slots ≤ 64
   pub inside : f < t.slots
   pub live : s.me.0.live ≡ true

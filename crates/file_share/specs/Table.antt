@@ -64,14 +64,15 @@ size_word c = c.size
 abbrev pub lease_word : FileState → ℕ
 lease_word c = leases c + 65536 * number_of c.bar
 
--- Each file has three words, after the table's first, which stays 0.
+-- Each file has three words, behind the table's first, which stays 0. Files stand 16 words apart, a cache line and its neighbour, so that guests on
+-- different ones change words of different lines. The words between stay 0.
 pub record ShowsFile (words : List ℕ) (f : ℕ) (c : FileState) : Type 0 where
-  pub turn : slice_index words (3 * f + 1) ≡ turn_word c
-  pub size : slice_index words (3 * f + 2) ≡ size_word c
-  pub lease : slice_index words (3 * f + 3) ≡ lease_word c
+  pub turn : slice_index words (16 * f + 1) ≡ turn_word c
+  pub size : slice_index words (16 * f + 2) ≡ size_word c
+  pub lease : slice_index words (16 * f + 3) ≡ lease_word c
 
 pub record ShowsWords (words : List ℕ) (c : Core) : Type 0 where
-  pub wide : length words ≡ 3 * length c.files + 1
+  pub wide : length words ≡ 16 * length c.files + 1
   pub each : (f : ℕ) → f < length c.files → ShowsFile words f (file c.files f)
 
 -- ---- homes

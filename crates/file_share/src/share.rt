@@ -7,7 +7,7 @@ ghost use Rattle.seats.specs.Views.{AllIn, IsOut, MayGive, child, guests, joined
 ghost use Rattle.plain_file.specs.File.{max_file};
 ghost use Rattle.file_share.specs.Table.{Begun, Grown, just_seen, merged, opener, part};
 ghost use Rattle.file_share.specs.Steps.{Accounted, Never, NoTurn};
-ghost use Rattle.file_share.specs.Known.{past_seen, start_body, start_words};
+ghost use Rattle.file_share.specs.Known.{file_words, past_seen, start_body, start_words};
 
 use crate::rule::{Compare, Cut, Files, Merge, Opening, View};
 use crate::steps::{Chair, Top};
@@ -20,11 +20,11 @@ use std::marker::Brand;
 pub(crate) type Board = Table<Option<Body>, View, Opening, Files, Global>;
 
 fn push_words(words: &mut Vec<u64>, first: First) -> Result<(), Memory>
-    ensures { OnOk result (words.new.items ≡ words.old.items ++ 0 ∷ first.size ∷ 0 ∷ []) }
+    ensures { OnOk result (words.new.items ≡ words.old.items ++ file_words first.size) }
 {
-    words.push(0)?;
-    words.push(first.size)?;
-    words.push(0)?;
+    let mut file = [0; 16];
+    file[1] = first.size;
+    words.extend_from_slice(&file)?;
     Ok(())
 }
 
@@ -68,7 +68,7 @@ pub(crate) fn open(alloc: Global, opening: &Opening) -> Result<(Board, Chair), M
     requires few { length opening.now.firsts ≤ 64 }
     requires small { All (λ first. first.size ≤ max_file) opening.now.firsts }
     ensures seat { IfOk result (λ t. (t.1.table_id ≡ t.0.shared.table_id) × (t.1.me ≡ (opener opening.now.firsts opening.now.leasers, []))) }
-    ensures counts { IfOk result (λ t. (t.0.shared.table_id.words ≡ 3 * length opening.now.firsts + 1) × (t.0.shared.table_id.slots ≡ length opening.now.firsts)) }
+    ensures counts { IfOk result (λ t. (t.0.shared.table_id.words ≡ 16 * length opening.now.firsts + 1) × (t.0.shared.table_id.slots ≡ length opening.now.firsts)) }
 {
     let words = words_of(alloc, opening.firsts.as_slice())?;
     let bodies = bodies_of(alloc, opening.firsts.as_slice())?;

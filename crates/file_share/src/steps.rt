@@ -30,7 +30,7 @@ pub(crate) fn try_turn(top: &Top, seat: &mut Chair, file: usize, guest: u32) -> 
     ensures deed { MatchOption result (seat.new.me ≡ seat.old.me) (λ b. DoesAt file take_turn (λ c. b ≡ past_of (file_at c.files file)) seat.old seat.new × (seat.new.me.1 ≡ (file, None) ∷ [])) }
     ensures told { MatchOption result ⊤ (λ b. Never seat.old.me.0.numbers b.history × IfAllIn seat.old.me.0 file b) }
 {
-    if top.compare_exchange::<TakeTurn>(seat, 3 * file + 1, 0, guest as u64 + 1) == 0 {
+    if top.compare_exchange::<TakeTurn>(seat, 16 * file + 1, 0, guest as u64 + 1) == 0 {
         top.exchange(seat, file, None)
     } else {
         None
@@ -47,7 +47,7 @@ fn put_size_of<J: Applying>(top: &Top, seat: &mut Chair, file: usize, entry: &En
     ensures table { seat.new.table_id ≡ seat.old.table_id }
     ensures deed { DoesAt file (set_size entry.now) Always seat.old seat.new × (seat.new.me.1 ≡ seat.old.me.1) }
 {
-    top.store::<SetSize<J>>(seat, 3 * file + 2, size);
+    top.store::<SetSize<J>>(seat, 16 * file + 2, size);
 }
 
 // Tells the size after an entry, which is then the one that is applied in this turn.
@@ -98,7 +98,7 @@ pub(crate) fn put_turn(top: &Top, seat: &mut Chair, file: usize, hand: Body)
     ensures deed { DoesAt file give_turn Always seat.old seat.new × (seat.new.me.1 ≡ []) }
 {
     top.exchange(seat, file, Some(hand));
-    top.store::<GiveTurn>(seat, 3 * file + 1, 0);
+    top.store::<GiveTurn>(seat, 16 * file + 1, 0);
 }
 
 // Looks at the size, which the pass notes.
@@ -107,7 +107,7 @@ pub(crate) fn look_size(top: &Top, seat: &mut Chair, file: usize) -> u64
     ensures table { seat.new.table_id ≡ seat.old.table_id }
     ensures deed { DoesAt file note_size (λ c. result ≡ (file_at c.files file).size) seat.old seat.new × (seat.new.me.1 ≡ seat.old.me.1) }
 {
-    top.load::<NoteSize>(seat, 3 * file + 2)
+    top.load::<NoteSize>(seat, 16 * file + 2)
 }
 
 // What a try to take the bar found.
@@ -127,7 +127,7 @@ pub(crate) fn try_lease(top: &Top, seat: &mut Chair, file: usize) -> bool
     ensures table { seat.new.table_id ≡ seat.old.table_id }
     ensures deed { MatchBool result (DoesAt file lease Always seat.old seat.new × (seat.new.me.1 ≡ seat.old.me.1)) (seat.new.me ≡ seat.old.me) }
 {
-    let word = 3 * file + 3;
+    let word = 16 * file + 3;
     let seen = top.peek(word);
     if seen >= 65536 {
         return false;
@@ -142,7 +142,7 @@ pub(crate) fn drop_lease(top: &Top, seat: &mut Chair, file: usize)
     ensures table { seat.new.table_id ≡ seat.old.table_id }
     ensures deed { DoesAt file unlease Always seat.old seat.new × (seat.new.me.1 ≡ seat.old.me.1) }
 {
-    top.fetch_sub::<DropLease>(seat, 3 * file + 3, 1);
+    top.fetch_sub::<DropLease>(seat, 16 * file + 3, 1);
 }
 
 // One try to take the bar. Where leases are seen, they are noted.
@@ -154,7 +154,7 @@ pub(crate) fn try_bar(top: &Top, seat: &mut Chair, file: usize, guest: u32) -> T
     ensures tried { HasTried result file seat.old seat.new }
 {
     let bar = (guest as u64 + 1) * 65536;
-    let found = top.compare_exchange::<TryBar>(seat, 3 * file + 3, 0, bar);
+    let found = top.compare_exchange::<TryBar>(seat, 16 * file + 3, 0, bar);
     if found == 0 {
         return Tried::Taken;
     }
@@ -173,5 +173,5 @@ pub(crate) fn drop_bar(top: &Top, seat: &mut Chair, file: usize)
     ensures table { seat.new.table_id ≡ seat.old.table_id }
     ensures deed { DoesAt file clear_bar Always seat.old seat.new × (seat.new.me.1 ≡ seat.old.me.1) }
 {
-    top.fetch_and::<DropBar>(seat, 3 * file + 3, 65535);
+    top.fetch_and::<DropBar>(seat, 16 * file + 3, 65535);
 }

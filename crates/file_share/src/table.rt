@@ -7,10 +7,11 @@ ghost use Rattle.file_share.specs.Steps.{Accounted, Always, DoesAt, IfAllIn, IsA
 ghost use Rattle.plain_file.specs.Board.{last_of};
 ghost use Rattle.file_share.specs.Places.{places_of};
 ghost use Rattle.plain_file.specs.Plain.{first_mark};
-ghost use Rattle.file_share.specs.Known.{Sound, known, no_last, whole_seen, Applies, AsSeen, Bars, Entered, IsBarred, IsDeed, IsIdle, IsLeased, IsSoundPart, IsUnleased, Left, Looked, NoBar, TookIn, child_pass, entry_of, first_pass, parent_pass, past_seen};
+ghost use Rattle.file_share.specs.Known.{Sound, known, no_last, whole_seen, Applies, AreMarksOf, AsSeen, Bars, Entered, IsBarred, IsDeed, IsIdle, IsLeased, IsReread, IsSoundPart, IsUnleased, Left, Looked, NoBar, TookIn, child_pass, entry_of, first_pass, parent_pass, past_seen};
 ghost use Rattle.file_share.specs.Tries.{HasBarred};
 
 use crate::closed::ClosedFiles;
+use crate::marks::{Marks, marks_of};
 use crate::share::{Board, close, cut, merge, open, opening_of};
 use crate::steps::{
     Chair, Top, Tried, drop_bar, drop_lease, is_unbarred, look_size, put_size, put_turn, try_bar,
@@ -41,7 +42,7 @@ impl Model for FileTable {
 
     ghost view = { λ t. t.table.shared.table_id };
 
-    ghost invariant = { λ t. (t.table.shared.table_id.words ≡ 3 * t.table.shared.table_id.slots + 1) × (t.table.shared.table_id.slots ≤ 64) × (t.count ≡ t.table.shared.table_id.slots) };
+    ghost invariant = { λ t. (t.table.shared.table_id.words ≡ 16 * t.table.shared.table_id.slots + 1) × (t.table.shared.table_id.slots ≤ 64) × (t.count ≡ t.table.shared.table_id.slots) };
 }
 
 /// A guest's token on a table. It has the contents of the file whose turn it has.
@@ -365,6 +366,31 @@ impl FileTable {
             last: _,
         } = other;
         merge(&self.table.shared, &mut pass.seat, seat);
+    }
+
+    /// Waits for the turn of a file, reads whose each entry of its history is and its size, and gives the
+    /// turn back. The pass is the table's first, with every other in and no turn: it had seen the whole
+    /// history, and what it has seen and has in hand stays as it was. `Memory` comes where an allocation
+    /// was refused; the turn is given back then too.
+    pub fn marks<R: Wait>(
+        &self,
+        rt: &R,
+        alloc: Global,
+        pass: &mut FilePass,
+        file: usize,
+    ) -> Result<Marks, Memory>
+        requires table { (pass.old.table ≡ self.now) × (file < self.now.slots) }
+        requires free { NoTurn pass.old.view }
+        requires all_in { AllIn pass.old.view }
+        ensures kept { IsReread pass.old pass.new }
+        ensures account { Accounted pass.new.view.numbers file (past_seen pass.new.view file) }
+        ensures marks { IfOk result (AreMarksOf pass.new.view file) }
+    {
+        pass.sound();
+        pass.enter(rt, self, file);
+        let result = marks_of(alloc, pass.body(file));
+        pass.leave(self, file);
+        result
     }
 
     /// Ends the table. The pass is its first, with every other in and no turn, lease or bar: it has seen

@@ -4,6 +4,7 @@ ghost use Rattle.file_share.specs.Known.{IsBack, IsIdle};
 ghost use Rattle.file_share.specs.Turns.{HasOf};
 
 use crate::boards::SharedFiles;
+use crate::marks::EntryMark;
 use crate::table::{FilePass, FileTable};
 use plain_file::{
     Answer, Applied, Blob, BoardRefusal, Body, Entry, First, Leased, List, Memory, Op, apply_as,
@@ -107,7 +108,7 @@ fn check_counts(
     Ok(())
 }
 
-// Each guest's entries of a file are as many as it made.
+// Each guest's entries of a file are as many as it made, and their marks are read before the table is closed.
 #[test]
 fn two_guests_write_one_file(rt: HostRuntime) -> Result<(), Fail> {
     let alloc = rt.alloc();
@@ -120,8 +121,21 @@ fn two_guests_write_one_file(rt: HostRuntime) -> Result<(), Fail> {
     assert!(rt; a.1 && b.1);
     table.join(&mut first, b.0);
     table.join(&mut first, a.0);
+    let read = table.marks(&rt, alloc, &mut first, 0)?;
+    assert_eq!(rt; read.size, 2);
+    let marks = read.marks.as_slice();
+    assert_eq!(rt; marks.len(), 100);
     let closed = table.close(first);
-    check_counts(&rt, closed.body(0), (0, 1), 50, 100)
+    let body = closed.body(0);
+    for (entry, mark) in body.history().as_slice().iter().zip(marks.iter()) {
+        let wanted = EntryMark {
+            guest: entry.guest,
+            call: entry.call,
+            way: entry.way,
+        };
+        assert_eq!(rt; *mark, wanted);
+    }
+    check_counts(&rt, body, (0, 1), 50, 100)
 }
 
 // The same of two threads, whose passes are dropped then.
@@ -140,19 +154,13 @@ fn have_written<R: Threads + Wait + Sync>(
     a.1 && b.1
 }
 
-#[tactic(auto, unfolding(plain_file::specs::File::reach))]
-fn write_of_two(alloc: Global) -> Result<Op, Memory>
-    ensures { IfOk result (λ op. reach op ≤ max_file) }
-{
-    let bytes = Blob::copy_of(alloc, b"ab")?;
-    Ok(Op::Write { off: 0, bytes })
-}
-
 // A file's history, made again on a file of its own, gives the file's bytes.
+#[tactic(auto, unfolding(plain_file::specs::File::reach))]
 fn check_replay(rt: &impl Abort, alloc: Global, body: &Body) -> Result<(), Fail> {
     let mut again = Body::new(alloc, First { size: 1, fill: 7 })?;
     for entry in body.history().as_slice() {
-        let op = write_of_two(alloc)?;
+        let bytes = Blob::copy_of(alloc, b"ab")?;
+        let op = Op::Write { off: 0, bytes };
         assert!(rt; entry.op == op);
         let entry = Entry {
             guest: entry.guest,
@@ -456,16 +464,6 @@ fn a_guest_has_all_its_leases(rt: HostRuntime) -> Result<(), Fail> {
 
 // ---- passes that come and go
 
-// Asserts whose a history's entries are, in order.
-fn check_guests(rt: &impl Abort, body: &Body, wanted: &[u32]) -> Result<(), Fail> {
-    let history = body.history().as_slice();
-    assert_eq!(rt; history.len(), wanted.len());
-    for (entry, guest) in history.iter().zip(wanted.iter()) {
-        assert_eq!(rt; entry.guest, *guest);
-    }
-    Ok(())
-}
-
 // Passes come back in another order than they went, and one goes when others are back. Each entry is there once.
 #[test]
 fn passes_come_back_in_any_order(rt: HostRuntime) -> Result<(), Fail> {
@@ -488,5 +486,11 @@ fn passes_come_back_in_any_order(rt: HostRuntime) -> Result<(), Fail> {
     table.join(&mut first, d.0);
     table.join(&mut first, b.0);
     let closed = table.close(first);
-    check_guests(&rt, closed.body(0), &[1, 0, 2, 3])
+    let history = closed.body(0).history().as_slice();
+    let guests = [1, 0, 2, 3];
+    assert_eq!(rt; history.len(), guests.len());
+    for (entry, guest) in history.iter().zip(guests.iter()) {
+        assert_eq!(rt; entry.guest, *guest);
+    }
+    Ok(())
 }

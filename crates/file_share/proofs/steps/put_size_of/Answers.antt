@@ -10,7 +10,7 @@ use Rattle.file_share.proofs.Stepping.{sets_size}
 use Rattle.file_share.proofs.steps.put_size_of.Goals as goal
 
 pub store-requires : goal.store-requires
-store-requires g c = let a = c.requires.at in let t = c.requires.turn in let e = c.requires.entry in let z = c.args.size in let i = 3 * c.args.file + 2 in (
+store-requires g c = let a = c.requires.at in let t = c.requires.turn in let e = c.requires.entry in let z = c.args.size in let i = 16 * c.args.file + 2 in (
   a.same,
   search rules,
   subst (λ (x : Entry). Allows (Shows files_kit) c.args.top.now.table_id.slots c.args.seat.now.id c.args.seat.now.me i (λ _. z) (λ _. sets x (step c.args.top.now.table_id.slots i z 0 none) c.args.seat.now.me z)) c.requires.named
