@@ -19,6 +19,7 @@ pub mod Sounding
 pub mod Calling
 pub mod Coming
 pub mod Listing
+pub mod Rereading
 pub mod BoardsPages
 pub mod BoardsLogs
 pub mod BoardsCore

@@ -1,9 +1,10 @@
--- What the tests' passes and boards have in hand, and that every pass is in at the end.
-use Rattle.std.proofs.Common.{◌≡◌, ◌≢◌, ◌∙◌, ap, sym, subst, refl, ℕ, zero, suc, ◌<◌, ◌≤◌, arith, false, List, [], ◌∷◌, length, get_or, slice_get, replicate, Option, ⊎_elim}
+-- What the tests' guests have in hand, and that every pass is in at the end.
+use Rattle.std.proofs.Common.{◌≡◌, ◌≢◌, ◌∙◌, ap, sym, subst, refl, ℕ, zero, suc, ◌+◌, ◌-◌, ◌<◌, ◌≤◌, arith, false, List, [], ◌∷◌, length, get_or, get_or-set_same, slice_get, replicate, Option, None, ⊎_elim}
 use Rattle.std.specs.Prelude.{sum, unwrap_or}
-use Rattle.std.proofs.lemmas.Bool.{ltb-true, lt-ltb}
-use Rattle.std.proofs.lemmas.List.Sums.{sum_by-cons}
+use Rattle.std.proofs.lemmas.List.Sums.{sum_by-cons, sum_by-set}
 use Rattle.std.proofs.lemmas.Option.{same_Some, none-some}
+use mathlib.Core.Logic.{dite}
+use native.Mathlib.Decide.{ℕ_discrete}
 use mathlib.Core.Option.{some, some-injective, some-ne-none}
 use lib.ListN.{get_elem?}
 use Rattle.atomic_table.proofs.Lists.{at_set}
@@ -12,19 +13,20 @@ use Rattle.seats.specs.Views.{Given, guests, root, AllIn, unused, opened, out, b
 use Rattle.page_map.specs.Board.{MapView, Hands, RangesView, log_at}
 use Rattle.page_map.specs.declared.ranges.Placed.{Placed}
 use Rattle.page_map.specs.Logs.{placed_at}
-use Rattle.range_tree.specs.Ranges.{tree_of}
+use Rattle.range_tree.specs.Ranges.{tree_of, with_pin, pins_on as board_pins, unpinned as board_unpinned}
 use Rattle.window_core.specs.declared.states.Pin.{Pin}
 use Rattle.window_core.specs.declared.states.RangeState.TheVariants as states
 use Rattle.window_core.specs.Window.{Window, no_side, new_window, pins_on}
 use Rattle.window_core.specs.Shown.{Branch, listed}
+use Rattle.window_core.proofs.Places.{within}
 use Rattle.range_share.specs.Table.{Mine, Noted, Knows, IsIdle, no_branch, branch_in, moves_in, not_moving, nothing_of, only_seen, stays_put}
 use Rattle.range_share.specs.Steps.{IsShowing, ranges_of}
 use Rattle.range_share.specs.Known.{Known, TookIn, first_pass, parent_pass, child_pass}
 use Rattle.range_share.specs.Boards.{board_of, numbers_of, PinsSeen}
-use Rattle.range_share.specs.Turns.{IsReady, IsSame, IsStill}
+use Rattle.range_share.specs.Turns.{Has, IsSame}
 use Rattle.range_share.proofs.Parts.{get_map}
 use Rattle.range_share.proofs.Coming.{merged_had}
-use Rattle.range_share.proofs.Boarding.{none_is, rest_is, no_tree, no_move}
+use Rattle.range_share.proofs.Boarding.{none_is, no_tree, no_move}
 use Rattle.range_share.proofs.BoardsCore.{pin_near}
 use Rattle.range_share.proofs.BoardsPins.{pins_total}
 
@@ -34,9 +36,6 @@ use Rattle.range_share.proofs.BoardsPins.{pins_total}
 pub idle_seen : (v : Knows) → IsIdle v.mine → PinsSeen v
 idle_seen v idle k p at = absurd (none-some p (ap (λ (ps : List Pin). slice_get ps k) (sym idle.pins) ∙ at))
 
-pub idle_still : (p : Known) → IsIdle p.view.mine → IsStill (board_of p)
-idle_still p idle = (none_is p.view idle.trees, rest_is p.view idle.moves)
-
 sum_none : (F : ℕ → ℕ) (n : ℕ) → ((i : ℕ) → F i ≡ 0) → sum (listed F n) ≡ 0
 sum_none F zero none = refl
 sum_none F (suc n) none = let a = sum_by-cons (λ (k : ℕ). k) (F 0) (listed (λ i. F (suc i)) n) in let b = sum_none (λ i. F (suc i)) n (λ i. none (suc i)) in let c = none 0 in omega (arith, a, b, c)
@@ -44,20 +43,58 @@ sum_none F (suc n) none = let a = sum_by-cons (λ (k : ℕ). k) (F 0) (listed (�
 pub idle_pins : (p : Known) → IsIdle p.view.mine → sum (board_of p).hands.pins ≡ 0
 idle_pins p idle = sum_none (λ r. pins_on r p.view.mine.shown.pins) (ranges_of p.view) (λ r. ap (pins_on r) idle.pins)
 
--- a board that was made of it
-pub begun : (p q : Known) → q ≡ p → IsIdle p.view.mine → IsSame (board_of p) (board_of q) × IsStill (board_of q) × ((board_of q).hands.pins ≡ (board_of p).hands.pins)
-begun p q e idle = subst (λ (k : Known). IsSame (board_of p) (board_of k) × IsStill (board_of k) × ((board_of k).hands.pins ≡ (board_of p).hands.pins)) (sym e) ((refl, refl, refl, refl), idle_still p idle, refl)
+-- a guest that was made of it
+pub idle_has : (p q : Known) → q ≡ p → IsIdle p.view.mine → Has (board_of q) None 0 0
+idle_has p q e idle = subst (λ (k : Known). Has (board_of k) None 0 0) (sym e) (record { tree_is = none_is p.view idle.trees; count = idle_pins p idle; there = λ l. absurd (omega (arith, l)) })
 
 none_in : (ps : List Pin) → length ps ≤ 0 → ps ≡ []
 none_in [] few = refl
 none_in (x ∷ ps) few = absurd (omega (arith, few))
 
-pub still_idle : (p : Known) → IsShowing p.view → IsStill (board_of p) → sum (board_of p).hands.pins ≡ 0 → IsIdle p.view.mine
-still_idle p s still none = record {
-  moves = no_move p.view still.1;
-  trees = no_tree p.view still.0;
-  pins = none_in p.view.mine.shown.pins (let t = pins_total (ranges_of p.view) p.view.mine.shown.pins (pin_near p.view s) in omega (arith, t, none));
+pub has_idle : (p : Known) (r : ℕ) → IsShowing p.view → Has (board_of p) None r 0 → (board_of p).hands.moves ≡ None → IsIdle p.view.mine
+has_idle p r s has moves = record {
+  moves = no_move p.view moves;
+  trees = no_tree p.view has.tree_is;
+  pins = none_in p.view.mine.shown.pins (let t = pins_total (ranges_of p.view) p.view.mine.shown.pins (pin_near p.view s) in let none = has.count in omega (arith, t, none));
 }
+
+-- ---- one pin more, and one less
+
+at_most : (xs : List ℕ) (r : ℕ) → get_or xs r 0 ≤ sum xs
+at_most [] r = omega arith
+at_most (x ∷ xs) zero = let a = sum_by-cons (λ (k : ℕ). k) x xs in omega (arith, a)
+at_most (x ∷ xs) (suc r) = let a = sum_by-cons (λ (k : ℕ). k) x xs in let h = at_most xs r in omega (arith, a, h)
+
+-- where all pins are on one range, each of them counts there
+all_on : (v : MapView) (tree : Option ℕ) (range pins r : ℕ) → Has v tree range pins → (0 < pins → r ≡ range) → board_pins v r ≡ pins
+all_on v tree range pins r has same = dite (ℕ_discrete pins 0)
+    (λ z. let a = at_most v.hands.pins r in let n = has.count in omega (arith, a, n, z))
+    (λ ne. let l : 0 < pins = omega (arith, ne) in ap (λ i. board_pins v i) (same l) ∙ has.there l)
+
+pub has_pinned : (v w : MapView) (tree : Option ℕ) (range pins r : ℕ) → Has v tree range pins → r < length v.hands.pins → (0 < pins → r ≡ range) → w ≡ with_pin v r → Has w tree r (pins + 1)
+has_pinned v w tree range pins r has near same e =
+    let x = board_pins v r in
+    let s = sum_by-set (λ (k : ℕ). k) v.hands.pins r (x + 1) 0 near in
+    let n = has.count in
+    let on : x ≡ pins = all_on v tree range pins r has same in
+    record {
+      tree_is = ap (λ (m : MapView). m.hands.tree) e ∙ has.tree_is;
+      count = ap (λ (m : MapView). sum m.hands.pins) e ∙ omega (arith, s, n);
+      there = λ _. ap (λ (m : MapView). board_pins m r) e ∙ (get_or-set_same v.hands.pins r (x + 1) 0 near ∙ ap (λ k. k + 1) on);
+    }
+
+pub has_unpinned : (v w : MapView) (tree : Option ℕ) (range pins : ℕ) → Has v tree range pins → 0 < pins → w ≡ board_unpinned v range → Has w tree range (pins - 1)
+has_unpinned v w tree range pins has l e =
+    let x = board_pins v range in
+    let on : x ≡ pins = has.there l in
+    let near : range < length v.hands.pins = within v.hands.pins range 0 (λ z. omega (arith, l, on, z)) in
+    let s = sum_by-set (λ (k : ℕ). k) v.hands.pins range (x - 1) 0 near in
+    let n = has.count in
+    record {
+      tree_is = ap (λ (m : MapView). m.hands.tree) e ∙ has.tree_is;
+      count = ap (λ (m : MapView). sum m.hands.pins) e ∙ omega (arith, s, n, on, l);
+      there = λ _. ap (λ (m : MapView). board_pins m range) e ∙ (get_or-set_same v.hands.pins range (x - 1) 0 near ∙ ap (λ k. k - 1) on);
+    }
 
 -- ---- what stays of a pass
 
@@ -79,12 +116,6 @@ numbers_same t u e = λ i. record {
 pub same_table : (p q : Known) → IsSame (board_of p) (board_of q) → q.table ≡ p.table
 same_table p q same = numbers_same q.table p.table (same_Some (numbers_of q.table) (numbers_of p.table) same.0)
 
-pub same_ready : (t : TableId) (p q : Known) → IsSame (board_of p) (board_of q) → IsReady t p → IsIdle q.view.mine → IsReady t q
-same_ready t p q same ready idle = (same_table p q same ∙ ready.0, ltb-true q.view.guest q.view.mine.movers (same.2 ∙ lt-ltb p.view.guest p.view.mine.movers ready.1), idle)
-
-pub same_then : (u v w : MapView) → IsSame u v → IsSame v w → IsSame u w
-same_then u v w a b = (b.0 ∙ a.0, b.1 ∙ a.1, b.2 ∙ a.2, b.3 ∙ a.3)
-
 -- where a chunk is placed, in the same tree with the same log
 pub found_still : (u v : MapView) (chunk : ℕ) (r o : Option Placed) → v.hands ≡ u.hands → v.ranges ≡ u.ranges → r ≡ placed_at (log_at u (tree_of u)) chunk → r ≡ o → placed_at (log_at v (tree_of v)) chunk ≡ o
 found_still u v chunk r o hands ranges found is =
@@ -92,20 +123,13 @@ found_still u v chunk r o hands ranges found is =
 
 -- ---- passes that are split off
 
--- a new pass is ready
-pub split_ready : (t : TableId) (p q r : Known) (n m : ℕ) → p.table ≡ t → p.view.mine.movers ≡ m → n < m → q ≡ parent_pass p n → r ≡ child_pass p n → (q.table ≡ t) × (q.view.mine.movers ≡ m) × IsReady t r
-split_ready t p q r n m is movers small kept given = (
-  ap (λ (k : Known). k.table) kept ∙ is,
-  ap (λ (k : Known). k.view.mine.movers) kept ∙ movers,
-  subst (λ (k : Known). IsReady t k) (sym given) (is, subst (λ i. n < i) (sym movers) small, child_idle p n),
-)
-  where
-    child_idle : (p : Known) (n : ℕ) → IsIdle (child_pass p n).view.mine
-    child_idle p n = record {
-      moves = λ r. get_map stays_put p.view.mine.shown.moving r false;
-      trees = λ f. ap (λ (b : Branch). b.had) (get_map only_seen p.view.mine.shown.branches f no_branch);
-      pins = refl;
-    }
+-- it has nothing in hand
+pub child_idle : (p : Known) (n : ℕ) → IsIdle (child_pass p n).view.mine
+child_idle p n = record {
+  moves = λ r. get_map stays_put p.view.mine.shown.moving r false;
+  trees = λ f. ap (λ (b : Branch). b.had) (get_map only_seen p.view.mine.shown.branches f no_branch);
+  pins = refl;
+}
 
 -- the first pass has nothing in hand
 pub first_idle : (t : TableId) (ranges files movers : ℕ) → IsIdle (first_pass t ranges files movers).view.mine

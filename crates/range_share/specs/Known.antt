@@ -280,6 +280,22 @@ pub record TookIn (p o q : Known) : Type 0 where
 abbrev pub AsSeen : ℕ → Knows → List (Option (List LogEntry)) → Type 0
 AsSeen count v trees = (f : ℕ) → f < count → (log : List LogEntry) × (get_elem? trees f ≡ some (Some log)) × Begins (branch_of v f).seen log × IsTrue (sound (ranges_of v) log)
 
+-- A pass with nothing in hand took the tree of a file and gave it back: it may have seen more of that file's log, and all else
+-- that it knows is as before.
+pub record IsReread (f : ℕ) (p q : Known) : Type 0 where
+  pub table : q.table ≡ p.table
+  pub guest : q.view.guest ≡ p.view.guest
+  pub numbers : q.view.numbers ≡ p.view.numbers
+  pub noted : q.view.noted ≡ p.view.noted
+  pub ranges : ranges_of q.view ≡ ranges_of p.view
+  pub files : files_of q.view ≡ files_of p.view
+  pub movers : q.view.mine.movers ≡ p.view.mine.movers
+  pub grown : Begins (branch_of p.view f).seen (branch_of q.view f).seen
+  pub others : (i : ℕ) → i ≢ f → (branch_of q.view i).seen ≡ (branch_of p.view i).seen
+  pub trees : (i : ℕ) → (branch_of q.view i).had ≡ false
+  pub moving : q.view.mine.shown.moving ≡ p.view.mine.shown.moving
+  pub pins : q.view.mine.shown.pins ≡ p.view.mine.shown.pins
+
 -- whether a span is the whole of a chunk in its range, in the tree that is had, if any
 abbrev pub HasSpan : Knows → Span → Bool → Type 0
 HasSpan v span result = ((f : ℕ) → (branch_of v f).had ≡ true → result ≡ list_any (is_chunk_of span) (map (chunk_in f) (slots_of (branch_of v f).seen))) × (Treeless v → result ≡ false)

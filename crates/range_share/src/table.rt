@@ -1,14 +1,14 @@
-ghost use Rattle.std.specs.Prelude.{◌≡◌, ◌+◌, ◌*◌, ◌<◌, ◌≤◌, ◌∷◌, ℕ, [], true, false, None, Some, IfOk, IfSome, is_some, length, MatchOption};
+ghost use Rattle.std.specs.Prelude.{◌≡◌, ◌+◌, ◌*◌, ◌<◌, ◌≤◌, ◌∷◌, ℕ, [], true, false, None, Some, IfOk, IfSome, IsTrue, is_some, length, MatchOption};
 ghost use Rattle.seats.specs.Views.{AllIn, IsOut, MayGive, guests};
 ghost use Rattle.page_map.specs.declared.pages.Mode.TheVariants as modes;
 ghost use Rattle.page_map.specs.declared.ranges.Placed.{Placed};
-ghost use Rattle.page_map.specs.Logs.{placed_at};
+ghost use Rattle.page_map.specs.Logs.{placed_at, sound};
 ghost use Rattle.page_map.specs.Window.{max_chunks};
 ghost use Rattle.window_core.specs.Window.{enter, leave, pins_on, set_map, settle_free, side, target_of, unpin, upgrade, word_at};
 ghost use Rattle.range_share.specs.Packed.{TargetFits};
 ghost use Rattle.range_share.specs.Table.{IsIdle, others_may};
 ghost use Rattle.range_share.specs.Steps.{Always, AtRest, DoesSo, HasIn, IsShowing, LogsBack, MaySetIn, Stands, TellsIn, Treeless, branch_of, files_of, map_shown, may_take_in, moves_at, ranges_of, saw, take_of};
-ghost use Rattle.range_share.specs.Known.{Aimed, AsSeen, Entered, HasChunk, IsDeed, IsPinNoted, Looked, Loses, PinsOne, Settles, Sound, Takes, TookIn, child_pass, first_pass, forgetting, known, may_take_by, no_looks, parent_pass, word_in, HasSpan};
+ghost use Rattle.range_share.specs.Known.{Aimed, AsSeen, Entered, HasChunk, IsDeed, IsPinNoted, IsReread, Looked, Loses, PinsOne, Settles, Sound, Takes, TookIn, child_pass, first_pass, forgetting, known, may_take_by, no_looks, parent_pass, word_in, HasSpan};
 
 use crate::closed::ClosedTrees;
 use crate::rule::{Noting, Sizes};
@@ -17,8 +17,8 @@ use crate::steps::{
     Chair, Top, add_pin, drop_pin, look_at, note, peek_at, point, put_map, put_tree, raise,
     settle_in, settle_out, try_enter, try_take,
 };
-use page_map::{Mode, Placed, RangeWord, Span, Target};
-use plain_file::Memory;
+use page_map::{LogEntry, Mode, Placed, RangeWord, Span, Target};
+use plain_file::{List, Memory};
 use range_tree::Tree;
 use std::alloc::Global;
 use std::marker::{Brand, Model};
@@ -498,6 +498,33 @@ impl RangeTable {
             looks: _,
         } = other;
         merge(&self.table.shared, &mut pass.seat, seat);
+    }
+
+    /// Waits for the tree of a file, copies its placement log, and gives the tree back. The pass is the table's
+    /// first, with every other in and nothing in hand. The log is sound, and goes on from what the pass had seen
+    /// of it; what each joined pass had seen begins it. `Memory` comes where an allocation was refused; the tree
+    /// is given back then too.
+    pub fn log_of<R: Wait>(
+        &self,
+        rt: &R,
+        alloc: Global,
+        pass: &mut RangePass,
+        file: usize,
+    ) -> Result<List<LogEntry>, Memory>
+        requires table { (pass.old.table ≡ self.now) × (file < self.now.slots) }
+        requires free { IsIdle pass.old.view.mine }
+        requires all_in { AllIn pass.old.view }
+        ensures kept { IsReread file pass.old pass.new }
+        ensures joined { LogsBack pass.new.view.numbers file (branch_of pass.new.view file).seen }
+        ensures sound { IsTrue (sound (ranges_of pass.new.view) (branch_of pass.new.view file).seen) }
+        ensures log { IfOk result (λ log. log ≡ (branch_of pass.new.view file).seen) }
+    {
+        pass.sound();
+        pass.enter(rt, self, file);
+        pass.sound();
+        let copied = Vec::from_slice(alloc, pass.tree(file).log());
+        pass.leave(self, file);
+        Ok(List::from_vec(copied?))
     }
 
     /// Ends the table. The pass is its first, with every other in and nothing in hand. The logs of the trees

@@ -1,7 +1,0 @@
-use Rattle.std.proofs.Common.{◌≡◌}
-use Rattle.range_share.specs.Boards.{board_of}
-use Rattle.range_share.specs.Turns.{IsSame, IsStill}
-use Rattle.range_share.proofs.tests.place_all.Given as goal
-
-abbrev pub invariant-loop-file : goal.invariant-loop-file
-invariant-loop-file g l = IsSame (board_of l.fn.pass) (board_of l.board.pass) × IsStill (board_of l.board.pass) × ((board_of l.board.pass).hands.pins ≡ (board_of l.fn.pass).hands.pins)
