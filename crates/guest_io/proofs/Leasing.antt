@@ -87,6 +87,7 @@ pub record LeasesAlone (v w : BoardView) (file : ℕ) : Type 0 where
   pub history : (file_at w file).history ≡ (file_at v file).history
   pub own : (file_at w file).own ≡ (file_at v file).own
   pub ready : (file_at w file).ready ≡ (file_at v file).ready
+  pub refusals : (file_at w file).refusals ≡ (file_at v file).refusals
   pub notes : SameNotes (file_at v file) (file_at w file)
   pub stay : OthersStay v file w
 
@@ -105,6 +106,7 @@ alone-leased v file z within =
       history = ap (λ (x : FileView). x.history) e;
       own = ap (λ (x : FileView). x.own) e;
       ready = ap (λ (x : FileView). x.ready) e;
+      refusals = ap (λ (x : FileView). x.refusals) e;
       notes = subst (λ (x : FileView). SameNotes (file_at v file) x) (sym e) (same-leased (is_some v.over) z (file_at v file));
       stay = λ f apart. leased-other v file z f apart;
     }
@@ -124,6 +126,7 @@ alone-unleased v file within =
       history = ap (λ (x : FileView). x.history) e;
       own = ap (λ (x : FileView). x.own) e;
       ready = ap (λ (x : FileView). x.ready) e;
+      refusals = ap (λ (x : FileView). x.refusals) e;
       notes = subst (λ (x : FileView). SameNotes (file_at v file) x) (sym e) (λ k n at. at);
       stay = λ f apart. unleased-other v file f apart;
     }
@@ -141,12 +144,13 @@ alone-both u v w file a b = record {
   history = b.history ∙ a.history;
   own = b.own ∙ a.own;
   ready = b.ready ∙ a.ready;
+  refusals = b.refusals ∙ a.refusals;
   notes = λ k n at. b.notes k n (a.notes k n at);
   stay = λ f apart. b.stay f apart ∙ a.stay f apart;
 }
 
 alone-same : (v : BoardView) (file : ℕ) → LeasesAlone v v file
-alone-same v file = record { guest = refl; plain = refl; over = refl; may_lease = refl; others = refl; turn = refl; count = refl; first = refl; history = refl; own = refl; ready = refl; notes = λ k n at. at; stay = λ f apart. refl }
+alone-same v file = record { guest = refl; plain = refl; over = refl; may_lease = refl; others = refl; turn = refl; count = refl; first = refl; history = refl; own = refl; ready = refl; refusals = refl; notes = λ k n at. at; stay = λ f apart. refl }
 
 pub RestsAs-alone : (v w : BoardView) (file : ℕ) → LeasesAlone v w file → RestsAs v w
 RestsAs-alone v w file k = record {

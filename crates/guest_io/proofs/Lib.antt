@@ -18,3 +18,4 @@ pub mod HoldLaws
 pub mod HoldReleasing
 pub mod HoldAccess
 pub mod HoldGranting
+pub mod Counting

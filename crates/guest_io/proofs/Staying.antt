@@ -30,7 +30,7 @@ firsts-by v w file here others f =
     (λ e. ap (λ n. (file_at w n).first) e ∙ here ∙ ap (λ n. (file_at v n).first) (sym e))
     (λ else. ap (λ (x : FileView). x.first) (others f else))
 
-no-more : (fs : List FileView) (f : ℕ) → length fs ≤ f → get_or fs f no_file ≡ no_file
+pub no-more : (fs : List FileView) (f : ℕ) → length fs ≤ f → get_or fs f no_file ≡ no_file
 no-more [] f h = refl
 no-more (x ∷ fs) zero h = absurd (omega (arith, h))
 no-more (x ∷ fs) (suc f) h = no-more fs f (omega (arith, h))

@@ -83,3 +83,7 @@ abbrev pub KeepsRounds : {T : Type 0} → MapView → Result T Refusal → MapVi
 KeepsRounds old (Ok d) new = new.ranges.rounds ≡ old.ranges.rounds
 KeepsRounds old (Err refusals.Memory) new = Unit {0}
 KeepsRounds old (Err e) new = new.ranges.rounds ≡ old.ranges.rounds
+
+-- each file's count of refused bars is as before
+abbrev pub KeepsRefusals : BoardView → BoardView → Type 0
+KeepsRefusals old new = (file : ℕ) → (file_at new file).refusals ≡ (file_at old file).refusals

@@ -2,12 +2,14 @@
 use Rattle.std.specs.Prelude.{◌≡◌, ℕ, ◌<◌, ◌≤◌, false, Result, Ok, Err}
 use Rattle.plain_file.specs.declared.operations.Op.TheVariants as ops
 use Rattle.plain_file.specs.declared.operations.Way.TheVariants as ways
+use Rattle.plain_file.specs.Board.{BoardView}
 use Rattle.plain_file.specs.Turns.{leases_on, refused_bar}
 use Rattle.guest_dax.specs.Stands.{Stand}
 use Rattle.guest_io.specs.declared.calls.Done.{Done}
 use Rattle.guest_io.specs.declared.calls.Refusal.{Refusal}
 use Rattle.guest_io.specs.declared.calls.Refusal.TheVariants as refusals
 use Rattle.guest_io.specs.Requests.{Sends}
+use Rattle.guest_io.specs.Going.{KeepsRefusals}
 
 -- Leases were seen on the file, the board's own among them; where no other board may lease, they are its own. The refused bar is counted, and nothing else has changed.
 pub record IsBarred (old : Stand) (file count : ℕ) (new : Stand) : Type 0 where
@@ -25,3 +27,9 @@ abbrev pub Truncates : Stand → ℕ → ℕ → ℕ → Result Done Refusal →
 Truncates old file call size (Ok d) new = SendsBarred old file call size (Ok d) new
 Truncates old file call size (Err (refusals.Leased count)) new = IsBarred old file count new
 Truncates old file call size (Err e) new = SendsBarred old file call size (Err e) new
+
+-- A bar is refused where the truncation is refused for leases, which `Truncates` counts, and nowhere else.
+abbrev pub CountsRefusal : BoardView → Result Done Refusal → BoardView → Type 0
+CountsRefusal old (Ok d) new = KeepsRefusals old new
+CountsRefusal old (Err (refusals.Leased count)) new = Unit {0}
+CountsRefusal old (Err e) new = KeepsRefusals old new

@@ -8,7 +8,7 @@ ghost use Rattle.guest_dax.specs.Stands.{stand, Stands, Keeps};
 ghost use Rattle.guest_dax.specs.Looks.{NoLooks};
 ghost use Rattle.guest_io.specs.Requests.{IsHome};
 ghost use Rattle.guest_io.specs.Ways.{IsPlacedFor, ArePlaced};
-ghost use Rattle.guest_io.specs.Going.{StaysBoard, LeavesAll, KeepsRounds};
+ghost use Rattle.guest_io.specs.Going.{StaysBoard, LeavesAll, KeepsRounds, KeepsRefusals};
 ghost use Rattle.guest_io.specs.Chunks.{AppliesDirect, Gets, StaysRounds, way_of, AreHeld, IsGivenBack};
 ghost use Rattle.guest_io.specs.Windows.{GetsSecond, GetsAll, GoesThrough, IsOfDax};
 
@@ -175,6 +175,7 @@ where
         ensures applied { AppliesDirect (F.board self.old.dax.files) file call (way_of first second) op result (F.board self.new.dax.files) }
         ensures stays { StaysBoard (F.board self.old.dax.files) (F.board self.new.dax.files) }
         ensures sound { IsSoundBoard (F.board self.new.dax.files) file }
+        ensures refusals { KeepsRefusals (F.board self.old.dax.files) (F.board self.new.dax.files) }
         ensures back { IsGivenBack (R.map self.old.dax.ranges) first second (R.map self.new.dax.ranges) }
         ensures driver { self.new.dax.driver ≡ self.old.dax.driver }
         ensures refs { self.new.dax.refs ≡ self.old.dax.refs }
@@ -216,6 +217,7 @@ where
         ensures leaves { LeavesAll (stand (W.wire self.old.dax.driver.wire) (F.board self.old.dax.files) (R.map self.old.dax.ranges)) (stand (W.wire self.new.dax.driver.wire) (F.board self.new.dax.files) (R.map self.new.dax.ranges)) }
         ensures goes { GoesThrough (stand (W.wire self.old.dax.driver.wire) (F.board self.old.dax.files) (R.map self.old.dax.ranges)) file call op off len mode result (stand (W.wire self.new.dax.driver.wire) (F.board self.new.dax.files) (R.map self.new.dax.ranges)) }
         ensures rounds { KeepsRounds (R.map self.old.dax.ranges) result (R.map self.new.dax.ranges) }
+        ensures refusals { KeepsRefusals (F.board self.old.dax.files) (F.board self.new.dax.files) }
         ensures quiet { (R.map self.old.dax.ranges).ranges.others ≡ false → ArePlaced (log_at (R.map self.old.dax.ranges) file) off len mode → self.new.dax.driver ≡ self.old.dax.driver }
         ensures refs { self.new.dax.refs ≡ self.old.dax.refs }
         ensures holds { self.new.holds ≡ self.old.holds }

@@ -2,7 +2,7 @@ ghost use Rattle.std.specs.Prelude.{◌≡◌, ◌<◌, ◌≤◌, None, length}
 ghost use Rattle.plain_file.specs.File.{max_file, reach};
 ghost use Rattle.plain_file.specs.Sound.{IsSoundBoard};
 ghost use Rattle.guest_io.specs.Chunks.{AppliesDirect};
-ghost use Rattle.guest_io.specs.Going.{StaysBoard};
+ghost use Rattle.guest_io.specs.Going.{StaysBoard, KeepsRefusals};
 
 use crate::calls::Done;
 use plain_file::{FileTurns, Memory, Op, Way, apply_as};
@@ -25,6 +25,7 @@ pub(crate) fn apply_direct<T: Wait, F: FileTurns>(
     ensures applies { AppliesDirect (F.board files.old) file call way op result (F.board files.new) }
     ensures stays { StaysBoard (F.board files.old) (F.board files.new) }
     ensures sound { IsSoundBoard (F.board files.new) file }
+    ensures refusals { KeepsRefusals (F.board files.old) (F.board files.new) }
 {
     files.mark(call, way);
     let applied = apply_as(rt, alloc, files, file, op);

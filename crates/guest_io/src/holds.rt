@@ -9,7 +9,7 @@ ghost use Rattle.guest_dax.specs.Stands.{stand};
 ghost use Rattle.guest_dax.specs.Looks.{NoLooks};
 ghost use Rattle.guest_io.specs.Requests.{IsHome};
 ghost use Rattle.guest_io.specs.Ways.{IsPlacedFor};
-ghost use Rattle.guest_io.specs.Going.{LeavesAll, KeepsRounds};
+ghost use Rattle.guest_io.specs.Going.{LeavesAll, KeepsRounds, KeepsRefusals};
 ghost use Rattle.guest_io.specs.Holds.{max_holds, granted_at, count_of, HasHolds, LeavesRest, SameEntries, AsksHold, GoesHeld, AccessesHold, ReleasesHold, loads, stores};
 
 use crate::calls::{Done, Held, Refusal};
@@ -67,6 +67,7 @@ where
         ensures entries { (W.wire self.old.dax.driver.wire).honest ≡ true → SameEntries (F.board self.old.dax.files) (F.board self.new.dax.files) }
         ensures asks { AsksHold (stand (W.wire self.old.dax.driver.wire) (F.board self.old.dax.files) (R.map self.old.dax.ranges)) self.old.holds file chunk mode result (stand (W.wire self.new.dax.driver.wire) (F.board self.new.dax.files) (R.map self.new.dax.ranges)) self.new.holds }
         ensures rounds { KeepsRounds (R.map self.old.dax.ranges) result (R.map self.new.dax.ranges) }
+        ensures refusals { KeepsRefusals (F.board self.old.dax.files) (F.board self.new.dax.files) }
         ensures quiet { (R.map self.old.dax.ranges).ranges.others ≡ false → IsPlacedFor (log_at (R.map self.old.dax.ranges) file) chunk mode → self.new.dax.driver ≡ self.old.dax.driver }
         ensures refs { self.new.dax.refs ≡ self.old.dax.refs }
     {
@@ -114,6 +115,8 @@ where
         ensures looks { NoLooks (R.map self.old.dax.ranges) → NoLooks (R.map self.new.dax.ranges) }
         ensures logs { (R.map self.new.dax.ranges).ranges.logs ≡ (R.map self.old.dax.ranges).ranges.logs }
         ensures goes { GoesHeld (F.board self.old.dax.files) granted call op result (F.board self.new.dax.files) }
+        ensures rounds { (R.map self.new.dax.ranges).ranges.rounds ≡ (R.map self.old.dax.ranges).ranges.rounds }
+        ensures refusals { KeepsRefusals (F.board self.old.dax.files) (F.board self.new.dax.files) }
         ensures driver { self.new.dax.driver ≡ self.old.dax.driver }
         ensures refs { self.new.dax.refs ≡ self.old.dax.refs }
         ensures holds { self.new.holds ≡ self.old.holds }
@@ -156,6 +159,8 @@ where
         ensures looks { NoLooks (R.map self.old.dax.ranges) → NoLooks (R.map self.new.dax.ranges) }
         ensures logs { (R.map self.new.dax.ranges).ranges.logs ≡ (R.map self.old.dax.ranges).ranges.logs }
         ensures accesses { AccessesHold (stand (W.wire self.old.dax.driver.wire) (F.board self.old.dax.files) (R.map self.old.dax.ranges)) self.old.holds call hold off len (loads len) result (stand (W.wire self.new.dax.driver.wire) (F.board self.new.dax.files) (R.map self.new.dax.ranges)) }
+        ensures rounds { (R.map self.new.dax.ranges).ranges.rounds ≡ (R.map self.old.dax.ranges).ranges.rounds }
+        ensures refusals { KeepsRefusals (F.board self.old.dax.files) (F.board self.new.dax.files) }
         ensures driver { self.new.dax.driver ≡ self.old.dax.driver }
         ensures refs { self.new.dax.refs ≡ self.old.dax.refs }
         ensures holds { self.new.holds ≡ self.old.holds }
@@ -201,6 +206,8 @@ where
         ensures looks { NoLooks (R.map self.old.dax.ranges) → NoLooks (R.map self.new.dax.ranges) }
         ensures logs { (R.map self.new.dax.ranges).ranges.logs ≡ (R.map self.old.dax.ranges).ranges.logs }
         ensures accesses { AccessesHold (stand (W.wire self.old.dax.driver.wire) (F.board self.old.dax.files) (R.map self.old.dax.ranges)) self.old.holds call hold off (length bytes.now) (stores bytes.now) result (stand (W.wire self.new.dax.driver.wire) (F.board self.new.dax.files) (R.map self.new.dax.ranges)) }
+        ensures rounds { (R.map self.new.dax.ranges).ranges.rounds ≡ (R.map self.old.dax.ranges).ranges.rounds }
+        ensures refusals { KeepsRefusals (F.board self.old.dax.files) (F.board self.new.dax.files) }
         ensures driver { self.new.dax.driver ≡ self.old.dax.driver }
         ensures refs { self.new.dax.refs ≡ self.old.dax.refs }
         ensures holds { self.new.holds ≡ self.old.holds }
@@ -235,6 +242,9 @@ where
         ensures looks { NoLooks (R.map self.old.dax.ranges) → NoLooks (R.map self.new.dax.ranges) }
         ensures logs { (R.map self.new.dax.ranges).ranges.logs ≡ (R.map self.old.dax.ranges).ranges.logs }
         ensures releases { ReleasesHold (stand (W.wire self.old.dax.driver.wire) (F.board self.old.dax.files) (R.map self.old.dax.ranges)) self.old.holds hold result (stand (W.wire self.new.dax.driver.wire) (F.board self.new.dax.files) (R.map self.new.dax.ranges)) self.new.holds }
+        ensures rounds { (R.map self.new.dax.ranges).ranges.rounds ≡ (R.map self.old.dax.ranges).ranges.rounds }
+        ensures sweeps { (R.map self.new.dax.ranges).ranges.sweeps ≡ (R.map self.old.dax.ranges).ranges.sweeps }
+        ensures refusals { KeepsRefusals (F.board self.old.dax.files) (F.board self.new.dax.files) }
         ensures driver { self.new.dax.driver ≡ self.old.dax.driver }
         ensures refs { self.new.dax.refs ≡ self.old.dax.refs }
     {
@@ -260,6 +270,9 @@ where
         ensures entries { SameEntries (F.board self.old.dax.files) (F.board self.new.dax.files) }
         ensures looks { NoLooks (R.map self.old.dax.ranges) → NoLooks (R.map self.new.dax.ranges) }
         ensures logs { (R.map self.new.dax.ranges).ranges.logs ≡ (R.map self.old.dax.ranges).ranges.logs }
+        ensures rounds { (R.map self.new.dax.ranges).ranges.rounds ≡ (R.map self.old.dax.ranges).ranges.rounds }
+        ensures sweeps { (R.map self.new.dax.ranges).ranges.sweeps ≡ (R.map self.old.dax.ranges).ranges.sweeps }
+        ensures refusals { KeepsRefusals (F.board self.old.dax.files) (F.board self.new.dax.files) }
         ensures driver { self.new.dax.driver ≡ self.old.dax.driver }
         ensures refs { self.new.dax.refs ≡ self.old.dax.refs }
     {
@@ -277,6 +290,9 @@ where
         ensures entries { SameEntries (F.board self.dax.files) (F.board result.files) }
         ensures looks { NoLooks (R.map self.dax.ranges) → NoLooks (R.map result.ranges) }
         ensures logs { (R.map result.ranges).ranges.logs ≡ (R.map self.dax.ranges).ranges.logs }
+        ensures rounds { (R.map result.ranges).ranges.rounds ≡ (R.map self.dax.ranges).ranges.rounds }
+        ensures sweeps { (R.map result.ranges).ranges.sweeps ≡ (R.map self.dax.ranges).ranges.sweeps }
+        ensures refusals { KeepsRefusals (F.board self.dax.files) (F.board result.files) }
         ensures pins { sum (R.map result.ranges).hands.pins ≡ 0 }
         ensures leases { sum (F.board result.files).hands.leases ≡ 0 }
         ensures driver { result.driver ≡ self.dax.driver }

@@ -8,7 +8,7 @@ ghost use Rattle.guest_dax.specs.Stands.{stand};
 ghost use Rattle.guest_dax.specs.Looks.{NoLooks};
 ghost use Rattle.guest_io.specs.Requests.{IsHome};
 ghost use Rattle.guest_io.specs.Ways.{ArePlaced};
-ghost use Rattle.guest_io.specs.Going.{LeavesAll, Reads, KeepsRounds};
+ghost use Rattle.guest_io.specs.Going.{LeavesAll, Reads, KeepsRounds, KeepsRefusals};
 
 use crate::calls::{Done, Refusal};
 use crate::guest::Guest;
@@ -61,6 +61,7 @@ where
         ensures leaves { LeavesAll (stand (W.wire self.old.dax.driver.wire) (F.board self.old.dax.files) (R.map self.old.dax.ranges)) (stand (W.wire self.new.dax.driver.wire) (F.board self.new.dax.files) (R.map self.new.dax.ranges)) }
         ensures reads { Reads (stand (W.wire self.old.dax.driver.wire) (F.board self.old.dax.files) (R.map self.old.dax.ranges)) file call off len result (stand (W.wire self.new.dax.driver.wire) (F.board self.new.dax.files) (R.map self.new.dax.ranges)) }
         ensures rounds { KeepsRounds (R.map self.old.dax.ranges) result (R.map self.new.dax.ranges) }
+        ensures refusals { KeepsRefusals (F.board self.old.dax.files) (F.board self.new.dax.files) }
         ensures quiet { 0 < range_count (R.map self.old.dax.ranges) → (R.map self.old.dax.ranges).ranges.others ≡ false → ArePlaced (log_at (R.map self.old.dax.ranges) file) off len modes.R → self.new.dax.driver ≡ self.old.dax.driver }
         ensures refs { self.new.dax.refs ≡ self.old.dax.refs }
         ensures holds { self.new.holds ≡ self.old.holds }

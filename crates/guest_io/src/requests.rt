@@ -7,7 +7,7 @@ ghost use Rattle.plain_file.specs.declared.operations.Way.TheVariants as ways;
 ghost use Rattle.fuse_codec.specs.Replies.{is_reply};
 ghost use Rattle.guest_dax.specs.Stands.{stand, ref_at};
 ghost use Rattle.guest_io.specs.Requests.{IsHome, IsEntered, IsNotDone, answer_in, SendsRest, Sends, IsRefusalOf};
-ghost use Rattle.guest_io.specs.Going.{LeavesAll, KeepsRounds};
+ghost use Rattle.guest_io.specs.Going.{LeavesAll, KeepsRounds, KeepsRefusals};
 
 use crate::calls::{Done, Refusal};
 use crate::guest::Guest;
@@ -113,6 +113,7 @@ where
         ensures sends { Sends (stand (W.wire self.old.dax.driver.wire) (F.board self.old.dax.files) (R.map self.old.dax.ranges)) file call ops.Size ways.Req result (stand (W.wire self.new.dax.driver.wire) (F.board self.new.dax.files) (R.map self.new.dax.ranges)) }
         ensures leaves { LeavesAll (stand (W.wire self.old.dax.driver.wire) (F.board self.old.dax.files) (R.map self.old.dax.ranges)) (stand (W.wire self.new.dax.driver.wire) (F.board self.new.dax.files) (R.map self.new.dax.ranges)) }
         ensures rounds { KeepsRounds (R.map self.old.dax.ranges) result (R.map self.new.dax.ranges) }
+        ensures refusals { KeepsRefusals (F.board self.old.dax.files) (F.board self.new.dax.files) }
         ensures refs { self.new.dax.refs ≡ self.old.dax.refs }
         ensures holds { self.new.holds ≡ self.old.holds }
     {

@@ -5,7 +5,7 @@ ghost use Rattle.plain_file.specs.declared.operations.Way.TheVariants as ways;
 ghost use Rattle.guest_wire.specs.Keeps.{KeepsPages};
 ghost use Rattle.guest_dax.specs.Stands.{stand};
 ghost use Rattle.guest_io.specs.Requests.{IsHome, SendsRest, Sends};
-ghost use Rattle.guest_io.specs.Truncates.{Truncates};
+ghost use Rattle.guest_io.specs.Truncates.{Truncates, CountsRefusal};
 ghost use Rattle.guest_io.specs.Going.{LeavesAll, KeepsRounds};
 
 use crate::calls::{Done, Refusal};
@@ -92,6 +92,7 @@ where
         ensures map { KeepsPages (R.map self.old.dax.ranges) (R.map self.new.dax.ranges) }
         ensures truncates { Truncates (stand (W.wire self.old.dax.driver.wire) (F.board self.old.dax.files) (R.map self.old.dax.ranges)) file call size result (stand (W.wire self.new.dax.driver.wire) (F.board self.new.dax.files) (R.map self.new.dax.ranges)) }
         ensures rounds { KeepsRounds (R.map self.old.dax.ranges) result (R.map self.new.dax.ranges) }
+        ensures refusals { CountsRefusal (F.board self.old.dax.files) result (F.board self.new.dax.files) }
         ensures refs { self.new.dax.refs ≡ self.old.dax.refs }
         ensures holds { self.new.holds ≡ self.old.holds }
     {

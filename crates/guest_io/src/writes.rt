@@ -11,7 +11,7 @@ ghost use Rattle.guest_dax.specs.Looks.{NoLooks};
 ghost use Rattle.guest_io.specs.Requests.{IsHome};
 ghost use Rattle.guest_io.specs.Ways.{ArePlaced};
 ghost use Rattle.guest_io.specs.Windows.{GoesThrough};
-ghost use Rattle.guest_io.specs.Going.{LeavesAll, Writes, KeepsRounds};
+ghost use Rattle.guest_io.specs.Going.{LeavesAll, Writes, KeepsRounds, KeepsRefusals};
 
 use crate::calls::{Done, Refusal};
 use crate::guest::Guest;
@@ -50,6 +50,7 @@ where
         ensures leaves { LeavesAll (stand (W.wire self.old.dax.driver.wire) (F.board self.old.dax.files) (R.map self.old.dax.ranges)) (stand (W.wire self.new.dax.driver.wire) (F.board self.new.dax.files) (R.map self.new.dax.ranges)) }
         ensures goes { GoesThrough (stand (W.wire self.old.dax.driver.wire) (F.board self.old.dax.files) (R.map self.old.dax.ranges)) file call (ops.Write off bytes.now) off (length bytes.now) modes.W result (stand (W.wire self.new.dax.driver.wire) (F.board self.new.dax.files) (R.map self.new.dax.ranges)) }
         ensures rounds { KeepsRounds (R.map self.old.dax.ranges) result (R.map self.new.dax.ranges) }
+        ensures refusals { KeepsRefusals (F.board self.old.dax.files) (F.board self.new.dax.files) }
         ensures quiet { (R.map self.old.dax.ranges).ranges.others ≡ false → ArePlaced (log_at (R.map self.old.dax.ranges) file) off (length bytes.now) modes.W → self.new.dax.driver ≡ self.old.dax.driver }
         ensures refs { self.new.dax.refs ≡ self.old.dax.refs }
         ensures holds { self.new.holds ≡ self.old.holds }
@@ -92,6 +93,7 @@ where
         ensures leaves { LeavesAll (stand (W.wire self.old.dax.driver.wire) (F.board self.old.dax.files) (R.map self.old.dax.ranges)) (stand (W.wire self.new.dax.driver.wire) (F.board self.new.dax.files) (R.map self.new.dax.ranges)) }
         ensures writes { Writes (stand (W.wire self.old.dax.driver.wire) (F.board self.old.dax.files) (R.map self.old.dax.ranges)) file call off bytes.now result (stand (W.wire self.new.dax.driver.wire) (F.board self.new.dax.files) (R.map self.new.dax.ranges)) }
         ensures rounds { KeepsRounds (R.map self.old.dax.ranges) result (R.map self.new.dax.ranges) }
+        ensures refusals { KeepsRefusals (F.board self.old.dax.files) (F.board self.new.dax.files) }
         ensures quiet { (R.map self.old.dax.ranges).ranges.others ≡ false → (F.board self.old.dax.files).plain ≡ true → off + length bytes.now ≤ size_of (file_at (F.board self.old.dax.files) file) → ArePlaced (log_at (R.map self.old.dax.ranges) file) off (length bytes.now) modes.W → self.new.dax.driver ≡ self.old.dax.driver }
         ensures refs { self.new.dax.refs ≡ self.old.dax.refs }
         ensures holds { self.new.holds ≡ self.old.holds }
@@ -150,6 +152,7 @@ where
         ensures leaves { LeavesAll (stand (W.wire self.old.dax.driver.wire) (F.board self.old.dax.files) (R.map self.old.dax.ranges)) (stand (W.wire self.new.dax.driver.wire) (F.board self.new.dax.files) (R.map self.new.dax.ranges)) }
         ensures writes { Writes (stand (W.wire self.old.dax.driver.wire) (F.board self.old.dax.files) (R.map self.old.dax.ranges)) file call off bytes.now result (stand (W.wire self.new.dax.driver.wire) (F.board self.new.dax.files) (R.map self.new.dax.ranges)) }
         ensures rounds { KeepsRounds (R.map self.old.dax.ranges) result (R.map self.new.dax.ranges) }
+        ensures refusals { KeepsRefusals (F.board self.old.dax.files) (F.board self.new.dax.files) }
         ensures quiet { 0 < range_count (R.map self.old.dax.ranges) → (R.map self.old.dax.ranges).ranges.others ≡ false → (F.board self.old.dax.files).plain ≡ true → off + length bytes.now ≤ size_of (file_at (F.board self.old.dax.files) file) → ArePlaced (log_at (R.map self.old.dax.ranges) file) off (length bytes.now) modes.W → self.new.dax.driver ≡ self.old.dax.driver }
         ensures refs { self.new.dax.refs ≡ self.old.dax.refs }
         ensures holds { self.new.holds ≡ self.old.holds }

@@ -8,6 +8,7 @@ use Rattle.guest_io.specs.Chunks.{Gets}
 use Rattle.guest_io.specs.Holds.{HasHolds, AsksHold, granted_one, refused_one}
 use Rattle.guest_io.proofs.HoldLaws.{pins-few, leases-few}
 use Rattle.guest_io.proofs.HoldGranting.{unlent, under-by, gets-lent, rest-after, asks-granted, holds-granted, holds-refused, asks-refused}
+use Rattle.guest_io.proofs.Counting.{refusals-got, refusals-refused}
 use Rattle.guest_io.proofs.guest.Guest.hold.Goals as goal
 
 pub lease-noted-requires-clause-few : goal.lease-noted-requires-clause-few
@@ -101,3 +102,14 @@ returns-in-Err-clause-asks g c =
     subst (λ (b : BoardView). AsksHold s h c.args.file c.args.chunk c.args.mode (Err c.refusal_of_dax.result) (record t { files = b }) c.refuse.new.self) (sym c.unlease.ensures) (
     subst (λ (j : Holds). AsksHold s h c.args.file c.args.chunk c.args.mode (Err c.refusal_of_dax.result) (unlent t c.args.file) j) (sym is) (
     asks-refused s t c.args.file z u h c.args.chunk c.args.mode c.in-Err.refusal c.refusal_of_dax.result c.requires.ranges gets c.refusal_of_dax.ensures))
+
+pub returns-in-Ok-clause-refusals : goal.returns-in-Ok-clause-refusals
+returns-in-Ok-clause-refusals g c =
+    refusals-got (g.F.FileBoard.board c.args.self.now.dax.files) (g.F.FileBoard.board c.lease-noted.new.self) (g.F.FileBoard.board c.get_chunk.new.self.dax.files) c.args.file c.lease-noted.result (omega (arith, c.requires.file, c.requires.home.stands.refs_of)) c.lease-noted.ensures.1 c.get_chunk.ensures.keeps.files
+
+pub returns-in-Err-clause-refusals : goal.returns-in-Err-clause-refusals
+returns-in-Err-clause-refusals g c =
+    let v = g.F.FileBoard.board c.args.self.now.dax.files in
+    let l = g.F.FileBoard.board c.lease-noted.new.self in
+    let w = g.F.FileBoard.board c.get_chunk.new.self.dax.files in
+    refusals-refused v l w (g.F.FileBoard.board c.unlease.new.self) c.args.file c.lease-noted.result (omega (arith, c.requires.file, c.requires.home.stands.refs_of)) c.lease-noted.ensures.1 c.unlease.ensures c.get_chunk.ensures.keeps.files

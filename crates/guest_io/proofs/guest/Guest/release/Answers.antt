@@ -4,6 +4,7 @@ use Rattle.guest_io.specs.Holds.{HasHolds, given_back}
 use Rattle.guest_io.specs.declared.guest.Holds.{Holds}
 use Rattle.guest_io.proofs.HoldLaws.{pin-had, lease-held}
 use Rattle.guest_io.proofs.HoldReleasing.{HasHolds-back, given-back}
+use Rattle.guest_io.proofs.Counting.{KeepsRefusals-unleased}
 use Rattle.guest_io.proofs.guest.Guest.release.Goals as goal
 
 pub unpin-requires : goal.unpin-requires
@@ -31,3 +32,6 @@ returns-in-Some-clause-holds g c =
     subst (λ (t : Stand). HasHolds t c.take_out.new.self) (sym (given-back wire v w m k f c.unlease.ensures c.unpin.ensures)) (
     subst (λ (j : Holds). HasHolds (given_back (stand wire v m) f) j) (sym c.take_out.ensures) (
     HasHolds-back (stand wire v m) h c.args.hold f c.requires.holds (sym c.in-Some.ensures)))
+
+pub returns-in-Some-clause-refusals : goal.returns-in-Some-clause-refusals
+returns-in-Some-clause-refusals g c = KeepsRefusals-unleased (g.F.FileBoard.board c.args.self.now.dax.files) (g.F.FileBoard.board c.unlease.new.self) c.in-Some.granted.file (c.requires.holds.each c.args.hold c.in-Some.granted (sym c.in-Some.ensures)).file c.unlease.ensures

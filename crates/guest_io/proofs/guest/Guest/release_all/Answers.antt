@@ -16,6 +16,9 @@ loop-hold-preserved g c =
       e.driver ∙ k.6,
       e.refs ∙ k.7,
       search rules,
+      e.rounds ∙ k.9,
+      e.sweeps ∙ k.10,
+      λ file. e.refusals file ∙ k.11 file,
     )
 
 pub returns-clause-none : goal.returns-clause-none

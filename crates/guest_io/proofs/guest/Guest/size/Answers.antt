@@ -10,6 +10,7 @@ use Rattle.guest_dax.specs.Stands.{stand}
 use Rattle.guest_io.proofs.OnFiles.{size-on, size_reply, handle-of}
 use Rattle.guest_io.proofs.Sending.{Asks, asks-home, asks-answered, asks-refused, CanAsk-marked}
 use Rattle.guest_io.proofs.Reading.{asks-leaves}
+use Rattle.guest_io.proofs.Counting.{KeepsRefusals-marked}
 use Rattle.guest_io.proofs.guest.Guest.size.Goals as goal
 
 pub getattr-sent-requires : goal.getattr-sent-requires
@@ -159,3 +160,9 @@ returns-in-Err-clause-leaves g c =
       on_file = λ honest. size-on (g.W.Wire.wire before).state (next_number c.args.self.now.dax.driver.unique) at c.args.file (handle-of s c.args.self.now.dax.refs at c.args.file c.requires.home.stands c.requires.file c.ref_of-at.ensures honest);
     } in
     asks-leaves g.W.Wire.wire g.W.Wire.gives (λ out r. r ≡ replies.Attr out) before old c.args.call ways.Req m c.args.file (ops.Size) (size_reply at.node c.args.file) c.getattr-sent.result after new asks
+
+pub returns-in-Ok-clause-refusals : goal.returns-in-Ok-clause-refusals
+returns-in-Ok-clause-refusals g c = KeepsRefusals-marked (g.F.FileBoard.board c.args.self.now.dax.files) (g.F.FileBoard.board c.mark.new.self) (g.F.FileBoard.board c.getattr-sent.new.files) c.args.call ways.Req c.mark.ensures c.getattr-sent.ensures.boards.files
+
+pub returns-in-Err-clause-refusals : goal.returns-in-Err-clause-refusals
+returns-in-Err-clause-refusals g c = KeepsRefusals-marked (g.F.FileBoard.board c.args.self.now.dax.files) (g.F.FileBoard.board c.mark.new.self) (g.F.FileBoard.board c.getattr-sent.new.files) c.args.call ways.Req c.mark.ensures c.getattr-sent.ensures.boards.files
