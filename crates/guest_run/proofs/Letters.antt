@@ -51,7 +51,7 @@ all_noted n (Some a ∷ rest) each = ap suc (all_noted (n + 1) rest (λ r within
 noted_some : (v now : MapView) (range : ℕ) → IsBlocked v now range → IsSome (look_at now range)
 noted_some v now range b = subst IsSome (sym b.at) refl
 
-count_pinned : (v : MapView) (range : ℕ) → range_count (one_more_pin v range) ≡ range_count v
+pub count_pinned : (v : MapView) (range : ℕ) → range_count (one_more_pin v range) ≡ range_count v
 count_pinned v range = length-set v.hands.pins range (pins_on v range + 1)
 
 -- each range has a noted look

@@ -8,6 +8,7 @@ pub mod Unheld
 pub mod RunExamples
 pub mod Letters
 pub mod Telling
+pub mod Tallies
 pub mod Coming
 pub mod Counting
 pub mod Following

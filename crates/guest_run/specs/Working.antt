@@ -1,5 +1,5 @@
 -- The calls that a worker makes, what they rest on, and what comes of each.
-use Rattle.std.specs.Prelude.{◌≡◌, ◌≢◌, ◌⊎◌, ℕ, zero, suc, ◌+◌, ◌<◌, ◌≤◌, ◌==◌, ◌&&◌, Bool, true, false, List, [], length, replicate, slice_get, take, Option, Some, None, IfSome, is_some, Result, Ok, Err, if◌then◌else◌}
+use Rattle.std.specs.Prelude.{◌≡◌, ◌≢◌, ◌⊎◌, ℕ, zero, suc, ◌+◌, ◌<◌, ◌≤◌, ◌==◌, ◌&&◌, Bool, true, false, List, [], ◌∷◌, length, replicate, slice_get, take, Option, Some, None, IfSome, is_some, Result, Ok, Err, if◌then◌else◌}
 use Rattle.plain_file.specs.declared.operations.Entry.{Entry}
 use Rattle.plain_file.specs.declared.operations.First.{First}
 use Rattle.plain_file.specs.declared.operations.Op.{Op}
@@ -8,14 +8,15 @@ use Rattle.plain_file.specs.declared.operations.Way.{Way}
 use Rattle.plain_file.specs.declared.operations.Way.TheVariants as ways
 use Rattle.plain_file.specs.File.{max_file}
 use Rattle.plain_file.specs.Limits.{max_transfer}
+use Rattle.plain_file.specs.Counts.{more_by_one}
 use Rattle.plain_file.specs.Board.{Note, FileView, BoardView, file_at}
 use Rattle.plain_file.specs.Turns.{leases_on}
 use Rattle.page_map.specs.declared.ranges.LogEntry.{LogEntry}
 use Rattle.page_map.specs.declared.pages.Mode.{Mode}
 use Rattle.page_map.specs.declared.pages.Mode.TheVariants as modes
 use Rattle.page_map.specs.Window.{range_size, max_chunks}
-use Rattle.page_map.specs.Board.{log_at}
-use Rattle.range_tree.specs.Ranges.{range_count, IsSoundRanges}
+use Rattle.page_map.specs.Board.{MapView, log_at}
+use Rattle.range_tree.specs.Ranges.{range_count, look_at, is_noted_blocked, IsSoundRanges}
 use Rattle.dax_script.specs.Asks.{held_by, hold_in, hold_places}
 use Rattle.dax_script.specs.declared.asks.Held.{Held as Wanted}
 use Rattle.dax_script.specs.declared.scripts.Call.{Call}
@@ -41,7 +42,7 @@ use Rattle.guest_io.specs.Calls.{Directs, first_chunk, last_chunk}
 use Rattle.guest_io.specs.Notes.{KeepsNotes}
 use Rattle.guest_io.specs.Requests.{IsHome}
 use Rattle.guest_io.specs.Ways.{IsReadWay, IsWriteWay}
-use Rattle.guest_io.specs.Going.{KeepsSizes}
+use Rattle.guest_io.specs.Going.{KeepsSizes, KeepsRefusals}
 use Rattle.guest_io.specs.Holds.{HasHolds, IsGranted, max_holds, granted_at, start_of, refused_one, released_one}
 use Rattle.guest_run.specs.Telling.{letters_of}
 use Rattle.guest_run.specs.Runs.{Asked, Had, IsAskedBefore, GoesOn}
@@ -386,3 +387,81 @@ is_done_line (lines.Past end) = false
 -- each line of a list does
 abbrev pub AllDone : List Numbered → Type 0
 AllDone ls = (n : ℕ) (l : Numbered) → slice_get ls n ≡ Some l → is_done_line l.line ≡ true
+
+-- ---- counts
+
+-- a line says that no range could be taken
+unfoldable pub is_busy_line : Line → Bool
+is_busy_line (lines.Done place answer) = false
+is_busy_line (lines.Held end through) = false
+is_busy_line lines.Released = false
+is_busy_line (lines.Busy letters) = true
+is_busy_line (lines.Leased count) = false
+is_busy_line lines.NoHold = false
+is_busy_line (lines.Past end) = false
+
+-- how many of the lines do
+unfoldable pub busy_lines : List Numbered → ℕ
+busy_lines [] = 0
+busy_lines (l ∷ ls) = (if is_busy_line l.line then 1 else 0) + busy_lines ls
+
+-- a line says that a file is leased
+unfoldable pub is_leased_line : Line → Bool
+is_leased_line (lines.Done place answer) = false
+is_leased_line (lines.Held end through) = false
+is_leased_line lines.Released = false
+is_leased_line (lines.Busy letters) = false
+is_leased_line (lines.Leased count) = true
+is_leased_line lines.NoHold = false
+is_leased_line (lines.Past end) = false
+
+-- a call truncates this file
+unfoldable pub truncates : ℕ → Call → Bool
+truncates f (calls.Read file off len) = false
+truncates f (calls.Write file off bytes) = false
+truncates f (calls.Fill file off len byte) = false
+truncates f (calls.Size file) = false
+truncates f (calls.Truncate file size) = file == f
+truncates f (calls.Hold file chunk mode) = false
+truncates f (calls.Load hold off len) = false
+truncates f (calls.Store hold off bytes) = false
+truncates f (calls.Release hold) = false
+
+-- how many truncations of a file are told to have found it leased
+unfoldable pub leased_lines : List Call → List Numbered → ℕ → ℕ
+leased_lines [] ls f = 0
+leased_lines (c ∷ cs) [] f = 0
+leased_lines (c ∷ cs) (l ∷ ls) f = (if truncates f c && is_leased_line l.line then 1 else 0) + leased_lines cs ls f
+
+-- The boards have counted just the lines of these calls: a round of all ranges that found each of them pinned or moving for each busy line, and for each leased line a refused bar of the call's file.
+pub record HasCounted (s t : Stand) (cs : List Call) (ls : List Numbered) : Type 0 where
+  pub rounds : s.map.ranges.rounds ≡ 0 → t.map.ranges.rounds ≡ busy_lines ls
+  pub refusals : (f : ℕ) → (file_at s.files f).refusals ≡ 0 → (file_at t.files f).refusals ≡ leased_lines cs ls f
+
+-- ---- counts of one call
+
+-- there are ranges, and each one's noted look shows it pinned or moving
+abbrev pub ShowsBlocked : MapView → Type 0
+ShowsBlocked v = (0 < range_count v) × ((range : ℕ) → range < range_count v → is_noted_blocked (look_at v range) ≡ true)
+
+-- no count has changed: neither that of blocked rounds, nor a file's of refused bars
+abbrev pub KeepsCounts : Stand → Stand → Type 0
+KeepsCounts s t = (t.map.ranges.rounds ≡ s.map.ranges.rounds) × KeepsRefusals s.files t.files
+
+-- a refused bar of the call's file is counted
+abbrev pub CountsBar : Stand → Call → Stand → Type 0
+CountsBar s c t = (f : ℕ) → (file_at t.files f).refusals ≡ (if truncates f c then more_by_one (file_at s.files f).refusals else (file_at s.files f).refusals)
+
+-- What a call's answer counts before its line is told: a refused bar where its file was leased, and no round yet. Where no range could be taken, the looks that are noted are such a round. Of want of memory nothing is said.
+abbrev pub Counts : Stand → Call → Result Line Refusal → Stand → Type 0
+Counts s c (Ok l) t = (is_busy_line l ≡ false) × (is_leased_line l ≡ false) × KeepsCounts s t
+Counts s c (Err (refusals.Busy looked)) t = ShowsBlocked t.map × KeepsCounts s t
+Counts s c (Err (refusals.Leased count)) t = (t.map.ranges.rounds ≡ s.map.ranges.rounds) × CountsBar s c t
+Counts s c (Err (refusals.NoHold hold)) t = KeepsCounts s t
+Counts s c (Err (refusals.Past end)) t = KeepsCounts s t
+Counts s c (Err e) t = Unit {0}
+
+-- what a call's line counts
+pub record HasCountedOne (s t : Stand) (c : Call) (l : Line) : Type 0 where
+  pub rounds : t.map.ranges.rounds ≡ (if is_busy_line l then more_by_one s.map.ranges.rounds else s.map.ranges.rounds)
+  pub refusals : (f : ℕ) → (file_at t.files f).refusals ≡ (if truncates f c && is_leased_line l then more_by_one (file_at s.files f).refusals else (file_at s.files f).refusals)

@@ -8,7 +8,7 @@ ghost use Rattle.guest_dax.specs.Stands.{stand};
 ghost use Rattle.guest_io.specs.Requests.{IsHome};
 ghost use Rattle.guest_io.specs.Holds.{HasHolds, LeavesRest};
 ghost use Rattle.guest_run.specs.Runs.{IsRunFrom};
-ghost use Rattle.guest_run.specs.Working.{IsIdle, TakesAlone, LeasesAlone, CanMake, AreCalls, AreBarred, AreHeldUp, max_calls, first_at, history_at, notes_at, Tells, Comes, IsToldOf};
+ghost use Rattle.guest_run.specs.Working.{IsIdle, TakesAlone, LeasesAlone, CanMake, AreCalls, AreBarred, AreHeldUp, max_calls, first_at, history_at, notes_at, Tells, Comes, IsToldOf, Counts, HasCounted, HasCountedOne};
 ghost use Rattle.guest_run.specs.Telling.{HasFields};
 
 use crate::gates::{Gate, Point};
@@ -31,7 +31,10 @@ use transcript_text::{Line, Numbered};
 /// The guest has asked for no hold yet. Where nobody else leases files, a truncation is refused exactly for its
 /// own holds on the file. Where nobody else takes ranges, a call is told that no range could be taken only where
 /// its own holds have all of them, but perhaps one where its bytes lie in two chunks. Over a shared board the
-/// size by which a hold ends may be one that the board has noted, and that has no upper end yet. `Memory` comes where an
+/// size by which a hold ends may be one that the board has noted, and that has no upper end yet. The board of
+/// ranges has counted a round of all ranges, each of them pinned or moving, for each call that is told that none
+/// could be taken, and the board of files a refused bar for each truncation that is told of leases, and no others,
+/// where it begins with none. `Memory` comes where an
 /// allocation was refused; then some of the calls were made. It waits as the guest's calls do.
 ///
 /// The gate is told before each call, and after each that made its line, `number` as the guest's number and the
@@ -56,6 +59,7 @@ where
     ensures count { IfOk result (λ lines. length lines ≡ length calls.now) }
     ensures barred { LeasesAlone (stand (W.wire guest.old.dax.driver.wire) (F.board guest.old.dax.files) (R.map guest.old.dax.ranges)) → IfOk result (AreBarred calls.now) }
     ensures held_up { TakesAlone (stand (W.wire guest.old.dax.driver.wire) (F.board guest.old.dax.files) (R.map guest.old.dax.ranges)) → IfOk result (AreHeldUp (range_count (R.map guest.old.dax.ranges)) (log_at (R.map guest.new.dax.ranges)) calls.now) }
+    ensures counts { IfOk result (HasCounted (stand (W.wire guest.old.dax.driver.wire) (F.board guest.old.dax.files) (R.map guest.old.dax.ranges)) (stand (W.wire guest.new.dax.driver.wire) (F.board guest.new.dax.files) (R.map guest.new.dax.ranges)) calls.now) }
     ensures printable { IfOk result (AllByRecursion IsPrintableNumbered) }
     ensures refs { guest.new.dax.refs ≡ guest.old.dax.refs }
 {
@@ -88,6 +92,7 @@ where
     ensures idle { IsIdle (stand (W.wire guest.new.dax.driver.wire) (F.board guest.new.dax.files) (R.map guest.new.dax.ranges)) guest.new.dax.refs guest.new.holds }
     ensures rest { LeavesRest (stand (W.wire guest.old.dax.driver.wire) (F.board guest.old.dax.files) (R.map guest.old.dax.ranges)) (stand (W.wire guest.new.dax.driver.wire) (F.board guest.new.dax.files) (R.map guest.new.dax.ranges)) }
     ensures tells { IfOk result (λ l. Tells (stand (W.wire guest.old.dax.driver.wire) (F.board guest.old.dax.files) (R.map guest.old.dax.ranges)) guest.old.holds number call.now l (stand (W.wire guest.new.dax.driver.wire) (F.board guest.new.dax.files) (R.map guest.new.dax.ranges)) guest.new.holds) }
+    ensures counts { IfOk result (HasCountedOne (stand (W.wire guest.old.dax.driver.wire) (F.board guest.old.dax.files) (R.map guest.old.dax.ranges)) (stand (W.wire guest.new.dax.driver.wire) (F.board guest.new.dax.files) (R.map guest.new.dax.ranges)) call.now) }
     ensures printable { IfOk result IsPrintableLine }
     ensures refs { guest.new.dax.refs ≡ guest.old.dax.refs }
 {
@@ -113,6 +118,7 @@ where
     ensures holds { HasHolds (stand (W.wire guest.new.dax.driver.wire) (F.board guest.new.dax.files) (R.map guest.new.dax.ranges)) guest.new.holds }
     ensures rest { LeavesRest (stand (W.wire guest.old.dax.driver.wire) (F.board guest.old.dax.files) (R.map guest.old.dax.ranges)) (stand (W.wire guest.new.dax.driver.wire) (F.board guest.new.dax.files) (R.map guest.new.dax.ranges)) }
     ensures comes { Comes (stand (W.wire guest.old.dax.driver.wire) (F.board guest.old.dax.files) (R.map guest.old.dax.ranges)) guest.old.holds number call.now result (stand (W.wire guest.new.dax.driver.wire) (F.board guest.new.dax.files) (R.map guest.new.dax.ranges)) guest.new.holds }
+    ensures counts { Counts (stand (W.wire guest.old.dax.driver.wire) (F.board guest.old.dax.files) (R.map guest.old.dax.ranges)) call.now result (stand (W.wire guest.new.dax.driver.wire) (F.board guest.new.dax.files) (R.map guest.new.dax.ranges)) }
     ensures fields { IfOk result HasFields }
     ensures refs { guest.new.dax.refs ≡ guest.old.dax.refs }
 {

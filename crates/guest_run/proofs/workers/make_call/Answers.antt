@@ -1,6 +1,7 @@
 use Rattle.std.proofs.Common.{ap, ◌∙◌}
 use Rattle.guest_dax.specs.Stands.{stand}
 use Rattle.guest_run.proofs.Telling.{honest_answer, IsIdle-after, IsHome-line, HasHolds-line, LeavesRest-line, NoLooks-line, Tells-line, printable_told}
+use Rattle.guest_run.proofs.Tallies.{line_counts}
 use Rattle.guest_run.proofs.workers.make_call.Goals as goal
 
 pub line_of-requires-clause-honest : goal.line_of-requires-clause-honest
@@ -41,3 +42,10 @@ returns-clause-printable g c =
     let t = stand (g.W.Wire.wire c.ask-answer.new.guest.dax.driver.wire) (g.F.FileBoard.board c.ask-answer.new.guest.dax.files) (g.R.MapBoard.map c.ask-answer.new.guest.dax.ranges) in
     let u = stand (g.W.Wire.wire c.line_of.new.guest.dax.driver.wire) (g.F.FileBoard.board c.line_of.new.guest.dax.files) (g.R.MapBoard.map c.line_of.new.guest.dax.ranges) in
     printable_told s u c.args.guest.now.holds c.line_of.new.guest.holds _ _ _ (Tells-line s t u _ _ _ _ _ _ _ c.line_of.ensures.sound c.ask-answer.ensures.comes c.line_of.ensures.line (ap (λ d. g.W.Wire.wire d.wire) c.line_of.ensures.driver) (ap g.F.FileBoard.board c.line_of.ensures.files) c.line_of.ensures.holds) c.line_of.ensures.fields
+
+pub returns-clause-counts : goal.returns-clause-counts
+returns-clause-counts g c =
+    let s = stand (g.W.Wire.wire c.args.guest.now.dax.driver.wire) (g.F.FileBoard.board c.args.guest.now.dax.files) (g.R.MapBoard.map c.args.guest.now.dax.ranges) in
+    let t = stand (g.W.Wire.wire c.ask-answer.new.guest.dax.driver.wire) (g.F.FileBoard.board c.ask-answer.new.guest.dax.files) (g.R.MapBoard.map c.ask-answer.new.guest.dax.ranges) in
+    let u = stand (g.W.Wire.wire c.line_of.new.guest.dax.driver.wire) (g.F.FileBoard.board c.line_of.new.guest.dax.files) (g.R.MapBoard.map c.line_of.new.guest.dax.ranges) in
+    line_counts s t u _ _ _ c.line_of.ensures.sound c.ask-answer.ensures.counts c.line_of.ensures.line (ap g.F.FileBoard.board c.line_of.ensures.files)

@@ -12,6 +12,7 @@ use Rattle.guest_run.proofs.Guests.{begun}
 use Rattle.guest_run.proofs.Following.{followed_none, can_make, step_followed}
 use Rattle.guest_run.proofs.Running.{step_run}
 use Rattle.guest_run.proofs.Fairness.{takes_after, leases_after, barred_none, held_up_none, step_barred, step_held_up}
+use Rattle.guest_run.proofs.Tallies.{counted_none, step_counted}
 use Rattle.guest_run.proofs.workers.worker.Goals as goal
 
 pub returns-in_err-with_capacity-clause-rest : goal.returns-in_err-with_capacity-clause-rest
@@ -35,6 +36,7 @@ loop-call-init g c =
       run = rw none (begun u.files.guest (range_count u.map) (first_at u.files) (history_at u.files) (log_at u.map) (notes_at u.files) cs);
       barred = λ alone. rw none (barred_none cs);
       held_up = λ alone. rw none (held_up_none (range_count u.map) (log_at u.map) cs);
+      counts = rw none (counted_none u cs);
       printable = rw none tt;
     }
 
@@ -88,5 +90,6 @@ loop-call-preserved g c =
       barred = λ alone. rw longer (step_barred s t h k all ls n call line (leases_after u s inv.rest alone) inv.idle.holds inv.followed number at e.tells (inv.barred alone));
       held_up = λ alone. rw longer
           (step_held_up ranges s t h k all ls n call line (takes_after u s inv.rest alone) inv.rest.map.count e.rest inv.idle.holds inv.followed number at e.tells (inv.held_up alone));
+      counts = rw longer (step_counted u s t all ls n call line c.requires.few number at e.counts inv.counts);
       printable = rw longer (all_push IsPrintableNumbered ls numbered inv.printable (record { call = omega arith; line = e.printable }));
     }

@@ -6,7 +6,7 @@ use Rattle.transcript_text.specs.TranscriptReading.{IsPrintableNumbered}
 use Rattle.guest_dax.specs.Stands.{stand}
 use Rattle.guest_io.specs.Holds.{LeavesRest}
 use Rattle.guest_run.specs.Runs.{IsRunFrom}
-use Rattle.guest_run.specs.Working.{IsIdle, TakesAlone, LeasesAlone, AreBarred, AreHeldUp, first_at, history_at, notes_at}
+use Rattle.guest_run.specs.Working.{IsIdle, TakesAlone, LeasesAlone, AreBarred, AreHeldUp, HasCounted, first_at, history_at, notes_at}
 use Rattle.guest_run.proofs.Following.{IsFollowed}
 use Rattle.guest_run.proofs.workers.worker.Given as goal
 
@@ -23,5 +23,6 @@ invariant-loop-call g l = record {
       (history_at (g.F.FileBoard.board l.guest.dax.files)) (log_at (g.R.MapBoard.map l.guest.dax.ranges)) (notes_at (g.F.FileBoard.board l.guest.dax.files)) l.calls l.lines;
   barred : LeasesAlone (stand (g.W.Wire.wire l.fn.guest.dax.driver.wire) (g.F.FileBoard.board l.fn.guest.dax.files) (g.R.MapBoard.map l.fn.guest.dax.ranges)) → AreBarred l.calls l.lines;
   held_up : TakesAlone (stand (g.W.Wire.wire l.fn.guest.dax.driver.wire) (g.F.FileBoard.board l.fn.guest.dax.files) (g.R.MapBoard.map l.fn.guest.dax.ranges)) → AreHeldUp (range_count (g.R.MapBoard.map l.fn.guest.dax.ranges)) (log_at (g.R.MapBoard.map l.guest.dax.ranges)) l.calls l.lines;
+  counts : HasCounted (stand (g.W.Wire.wire l.fn.guest.dax.driver.wire) (g.F.FileBoard.board l.fn.guest.dax.files) (g.R.MapBoard.map l.fn.guest.dax.ranges)) (stand (g.W.Wire.wire l.guest.dax.driver.wire) (g.F.FileBoard.board l.guest.dax.files) (g.R.MapBoard.map l.guest.dax.ranges)) l.calls l.lines;
   printable : AllByRecursion IsPrintableNumbered l.lines;
 }
