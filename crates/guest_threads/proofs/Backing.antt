@@ -8,7 +8,6 @@ use native.Mathlib.Decide.{ℕ_discrete, dec_le}
 use Rattle.plain_file.specs.Board.{BoardView}
 use Rattle.plain_file.specs.declared.operations.Entry.{Entry}
 use Rattle.plain_file.specs.declared.operations.First.{First}
-use Rattle.plain_file.specs.History.{Past}
 use Rattle.page_map.specs.declared.ranges.LogEntry.{LogEntry}
 use Rattle.page_map.specs.Board.{log_at}
 use Rattle.range_tree.specs.Ranges.{range_count}
@@ -27,7 +26,7 @@ use Rattle.guest_run.proofs.Guests.{begun}
 use Rattle.guest_run.proofs.Fairness.{barred_none, held_up_none}
 use Rattle.guest_threads.specs.declared.jobs.Job.{Job}
 use Rattle.guest_threads.specs.Jobs.{Team, team, IsTeam, AreBack, Returned, AreCallsOf, AreOut, IsTold, MaySweep, MayAllTakePart, team_of, firsts_of, count_of}
-use Rattle.guest_threads.specs.Ran.{HasRun, history_in}
+use Rattle.guest_threads.specs.Ran.{HasRun}
 use Rattle.guest_threads.proofs.Boarding.{may_run, ranges_new}
 
 -- ---- the members of a team
@@ -120,9 +119,9 @@ all_taken P (suc n) [] all = tt
 all_taken P (suc n) (x ∷ xs) all = (all.0, all_taken P n xs all.1)
 
 -- the entries are those of the guests, since the background made no calls
-module _ (firsts : List First) (ranges background : ℕ) (guests : List (List Call)) (files : List (Option Past)) (trees : List (Option (List LogEntry))) (parts : List GuestPart)
-    (ran : HasRun firsts ranges 0 (team_of background guests) files trees parts) where
-  by_guest : (f n : ℕ) (e : Entry) → slice_get (history_in files f) n ≡ Some e → e.guest < length guests
+module _ (firsts : List First) (ranges background : ℕ) (guests : List (List Call)) (h : ℕ → List Entry) (logs : ℕ → List LogEntry) (parts : List GuestPart)
+    (ran : HasRun firsts ranges 0 (team_of background guests) h logs parts) where
+  by_guest : (f n : ℕ) (e : Entry) → slice_get (h f) n ≡ Some e → e.guest < length guests
   by_guest f n e at =
       let lt = ran.known f n e at in
       dite (dec_le (length guests) e.guest)
@@ -133,12 +132,10 @@ module _ (firsts : List First) (ranges background : ℕ) (guests : List (List Ca
       absurd (none_is of.call (ap (λ (c : List Call). slice_get c e.call) (team_rest background guests e.guest cs past has) ∙ of.made)))
       (λ low. lt_of_not-le low)
 
-  pub guests_run : HasRun firsts ranges background guests files trees (take (length guests) parts)
+  pub guests_run : HasRun firsts ranges background guests h logs (take (length guests) parts)
   guests_run = record {
-    files_long = ran.files_long;
-    trees_long = ran.trees_long;
-    files_there = ran.files_there;
-    trees_there = ran.trees_there;
+    sound_logs = ran.sound_logs;
+    no_more = ran.no_more;
     count = length-take-le (length guests) parts (let many = ran.count in let few = (team_many background guests).0 in omega (arith, many, few));
     runs = λ g cs part at at'. ran.runs g cs part (team_here background guests g cs at) (in_take (length guests) parts g part at').1;
     known = by_guest;

@@ -1,4 +1,4 @@
--- What is left when the tables are closed: the first passes had seen it all.
+-- What the first passes have seen when all others are in: it is all.
 use Rattle.std.proofs.Common.{◌≡◌, ◌≢◌, inl, inr, ◌∙◌, ap, sym, subst, refl, ℕ, zero, suc, ◌+◌, ◌<◌, ◌≤◌, Bool, false, List, [], ◌∷◌, ◌++◌, length, map, slice_get, Option, Some, if◌then◌else◌, arith, lt_of_not-le}
 use Rattle.std.specs.Prelude.{IsTrue}
 use Rattle.std.specs.List.{AllByRecursion}
@@ -12,7 +12,6 @@ use Rattle.seats.specs.Views.{root, guests as all_numbers}
 use Rattle.plain_file.specs.declared.operations.Answer.{Answer}
 use Rattle.plain_file.specs.declared.operations.Entry.{Entry}
 use Rattle.plain_file.specs.declared.operations.First.{First}
-use Rattle.plain_file.specs.History.{Past}
 use Rattle.plain_file.specs.Board.{Note, FileView, no_file, file_at}
 use Rattle.plain_file.specs.Sound.{IsFresh}
 use Rattle.page_map.specs.declared.ranges.LogEntry.{LogEntry}
@@ -20,16 +19,15 @@ use Rattle.page_map.specs.declared.ranges.LogEntry.TheVariants as entries
 use Rattle.page_map.specs.Board.{log_at}
 use Rattle.page_map.specs.Logs.{sound}
 use Rattle.files_core.specs.Files.{new_file, new_files}
-use Rattle.files_core.specs.Laws.{Begins}
-use Rattle.file_share.specs.Table.{first_of, first_in, nothing_of, part}
-use Rattle.file_share.specs.Steps.{Accounted}
-use Rattle.file_share.specs.Known.{Known as FilesKnown, AsSeen as FilesSeen, first_pass as first_files, past_seen}
+use Rattle.files_core.specs.Shown.{Shown}
+use Rattle.file_share.specs.Table.{first_of, first_in, nothing_of, unseen}
+use Rattle.file_share.specs.Known.{Known as FilesKnown, first_pass as first_files}
 use Rattle.file_share.specs.Boards.{file_view}
 use Rattle.file_share.proofs.Listing.{length_listed}
 use Rattle.range_share.specs.Table.{new_core, no_branch, not_moving, nothing_of as no_side_of}
-use Rattle.range_share.specs.Boards.{log_of as log_seen}
-use Rattle.range_share.specs.Steps.{branch_of, ranges_of, files_of}
-use Rattle.range_share.specs.Known.{Known as RangesKnown, AsSeen as RangesSeen, first_pass as first_ranges}
+use Rattle.range_share.specs.Boards.{log_of}
+use Rattle.range_share.specs.Steps.{ranges_of, files_of}
+use Rattle.range_share.specs.Known.{Known as RangesKnown, first_pass as first_ranges}
 use Rattle.fuse_device.specs.State.{State}
 use Rattle.guest_wire.specs.declared.driver.FileRef.{FileRef}
 use Rattle.guest_dax.specs.Pinning.{PlacesIn}
@@ -47,40 +45,10 @@ use Rattle.guest_run.specs.Working.{IsCall, AreCalls, AreHeldUp, IsHeldRange, Is
 use Rattle.guest_run.proofs.Places.{none_is, within, found, front}
 use Rattle.guest_run.proofs.Guests.{AreSettled, settled}
 use Rattle.guest_run.proofs.Unheld.{unheld_done}
-use Rattle.guest_threads.specs.Jobs.{Team, team, IsTeam, IsServed, AreCallsOf, AreBack, IsReturned, Returned, firsts_of, count_of, leasers_for, stand_of}
-use Rattle.guest_threads.specs.Ran.{HasRun, past_history, some_log, history_in, log_in}
-use Rattle.guest_threads.proofs.Returning.{begins_on}
+use Rattle.guest_threads.specs.Jobs.{Team, team, IsTeam, IsServed, AreCallsOf, AreBack, IsReturned, Returned, AreRead, history_seen, log_seen, firsts_of, count_of, leasers_for, stand_of}
+use Rattle.guest_threads.specs.Ran.{HasRun}
 
--- ---- lists of what was closed
-
-history_of : (l : List (Option Past)) (f : ℕ) (x : Past) → get_elem? l f ≡ some (Some x) → history_in l f ≡ x.history
-unfolding history_in
-history_of [] f x e = absurd (some-ne-none (Some x) (sym e))
-history_of (y ∷ l) zero x e = ap past_history (some-injective y (Some x) e)
-history_of (y ∷ l) (suc f) x e = history_of l f x e
-
-history_past : (l : List (Option Past)) (f : ℕ) → length l ≤ f → history_in l f ≡ []
-unfolding history_in
-history_past [] f far = refl
-history_past (y ∷ l) zero far = absurd (omega (arith, far))
-history_past (y ∷ l) (suc f) far = history_past l f (omega (arith, far))
-
-log_of : (l : List (Option (List LogEntry))) (f : ℕ) (x : List LogEntry) → get_elem? l f ≡ some (Some x) → log_in l f ≡ x
-unfolding log_in
-log_of [] f x e = absurd (some-ne-none (Some x) (sym e))
-log_of (y ∷ l) zero x e = ap some_log (some-injective y (Some x) e)
-log_of (y ∷ l) (suc f) x e = log_of l f x e
-
-log_past : (l : List (Option (List LogEntry))) (f : ℕ) → length l ≤ f → log_in l f ≡ []
-unfolding log_in
-log_past [] f far = refl
-log_past (y ∷ l) zero far = absurd (omega (arith, far))
-log_past (y ∷ l) (suc f) far = log_past l f (omega (arith, far))
-
--- only nothing begins nothing
-begins_none : {A : Type 0} (xs ys : List A) → ys ≡ [] → Begins xs ys → xs ≡ []
-begins_none [] ys none b = refl
-begins_none (x ∷ xs) ys none (rest, e) = absurd (let z : x ∷ (xs ++ rest) ≡ [] = e ∙ none in cc)
+-- ---- lists
 
 all_of : {A : Type 0} (P : A → Type 0) (xs : List A) → ((n : ℕ) (x : A) → slice_get xs n ≡ Some x → P x) → AllByRecursion P xs
 all_of P [] each = tt
@@ -206,29 +174,24 @@ no_places m [] each = refl
 no_places m (c ∷ cs) each =
     ap (λ (b : Bool). if b then m ∷ hold_places (m + 1) cs else hold_places (m + 1) cs) (each 0 c refl) ∙ no_places (m + 1) cs (λ n d at. each (suc n) d at)
 
--- ---- the closed tables
+-- ---- what the first passes have seen
 
-module _ (t : Team) (guests : List (List Call)) (p : FilesKnown) (q : RangesKnown) (parts : List GuestPart) (files : List (Option Past)) (trees : List (Option (List LogEntry)))
+module _ (t : Team) (guests : List (List Call)) (p : FilesKnown) (q : RangesKnown) (parts : List GuestPart)
     (is : IsTeam t) (all : t.guests ≡ length guests) (calls_of : AreCallsOf (length (firsts_of t)) (count_of t) guests) (back : AreBack t p q) (ret : Returned t guests p q parts)
-    (many : length files ≡ length (firsts_of t)) (many' : length trees ≡ length (firsts_of t)) (seen : FilesSeen (length (firsts_of t)) p.view files)
-    (seen' : RangesSeen (length (firsts_of t)) q.view trees) (account : (f : ℕ) → f < length (firsts_of t) → Accounted p.view.numbers f (past_seen p.view f)) where
+    (read : AreRead p q (length (firsts_of t))) where
   -- where there is such a file, and where there is none
   by_file : (P : ℕ → Type 0) → ((f : ℕ) → f < length (firsts_of t) → P f) → ((f : ℕ) → length (firsts_of t) ≤ f → P f) → (f : ℕ) → P f
   by_file P near far f = dite (dec_le (length (firsts_of t)) f) (λ le. far f le) (λ not_le. near f (lt_of_not-le not_le))
 
-  history_there : (f : ℕ) → f < length (firsts_of t) → history_in files f ≡ (part p.view f).seen
-  history_there f near = history_of files f (past_seen p.view f) (seen f near)
+  no_history : (f : ℕ) → length (firsts_of t) ≤ f → history_seen p f ≡ []
+  no_history f far =
+      let n = back.later.files_long ∙ files_long t.files.table t.files (firsts_of t) (leasers_for (count_of t) t.guests) is.files_new in
+      ap (λ (m : Shown). m.seen) (get_or_past p.view.mine.files f unseen (omega (arith, far, n)))
 
-  no_history : (f : ℕ) → length (firsts_of t) ≤ f → history_in files f ≡ []
-  no_history f far = history_past files f (omega (arith, far, many))
-
-  no_log : (f : ℕ) → length (firsts_of t) ≤ f → log_in trees f ≡ []
-  no_log f far = log_past trees f (omega (arith, far, many'))
-
-  no_branch_seen : (f : ℕ) → length (firsts_of t) ≤ f → (branch_of q.view f).seen ≡ []
-  no_branch_seen f far =
+  no_log : (f : ℕ) → length (firsts_of t) ≤ f → log_seen q f ≡ []
+  no_log f far =
       let n = back.later.logs_long ∙ logs_long t.ranges.table t.ranges (count_of t) (length (firsts_of t)) t.guests is.ranges_new in
-      ap log_seen (get_or_past q.view.mine.shown.branches f no_branch (omega (arith, far, n)))
+      ap log_of (get_or_past q.view.mine.shown.branches f no_branch (omega (arith, far, n)))
 
   -- ---- one guest's part
 
@@ -242,43 +205,39 @@ module _ (t : Team) (guests : List (List Call)) (p : FilesKnown) (q : RangesKnow
         let n = length_listed (file_view v) (length v.mine.files) in
         get_or_past (stand_of r.job).files.files f no_file (omega (arith, far, n, as_many))
 
-    goes_on : (f : ℕ) → GoesOn g (history_at (stand_of r.job).files f) (history_in files f)
-    goes_on = by_file (λ f. GoesOn g (history_at (stand_of r.job).files f) (history_in files f))
-        (λ f near. let (begins, own) = (account f near).joined g r.left.mine r.left.refusals r.left.files_back in
-        subst (λ (z : List Entry × List Entry). GoesOn g z.0 z.1) (λ i. (r.left.histories f i, sym (history_there f near) i))
+    goes_on : (f : ℕ) → GoesOn g (history_at (stand_of r.job).files f) (history_seen p f)
+    goes_on = by_file (λ f. GoesOn g (history_at (stand_of r.job).files f) (history_seen p f))
+        (λ f near. let (begins, own) = (read f near).account.joined g r.left.mine r.left.refusals r.left.files_back in
+        subst (λ (z : List Entry). GoesOn g z (history_seen p f)) (r.left.histories f)
         (begins.0, sym begins.1, own))
         (λ f far. subst (λ (z : List Entry × List Entry). GoesOn g z.0 z.1) (λ i. (sym (ap (λ (x : FileView). x.history) (nothing_past f far)) i, sym (no_history f far) i))
         ([], refl, λ k e at by. absurd (none_is e at)))
 
-    log_goes_on : (f : ℕ) → LogGoesOn (log_at (stand_of r.job).map f) (log_in trees f)
-    log_goes_on = by_file (λ f. LogGoesOn (log_at (stand_of r.job).map f) (log_in trees f))
-        (λ f near. let (log, there, begins, is_sound) = seen' f near in
-        let (more, e) = begins_on (log_at (stand_of r.job).map f) (branch_of q.view f).seen log (r.left.logs f) begins in (more, log_of trees f log there ∙ sym e))
-        (λ f far. let none = begins_none (log_at (stand_of r.job).map f) (branch_of q.view f).seen (no_branch_seen f far) (r.left.logs f) in
-        subst (λ (z : List LogEntry × List LogEntry). LogGoesOn z.0 z.1) (λ i. (sym none i, sym (no_log f far) i)) ([], refl))
+    log_goes_on : (f : ℕ) → LogGoesOn (log_at (stand_of r.job).map f) (log_seen q f)
+    log_goes_on f = let (more, e) = r.left.logs f in (more, sym e)
 
-    settles : AreSettled (first_in (firsts_of t)) (history_in files) (notes_at (stand_of r.job).files)
+    settles : AreSettled (first_in (firsts_of t)) (history_seen p) (notes_at (stand_of r.job).files)
     settles f k note at none = by_file
-        (λ f. slice_get (notes_at (stand_of r.job).files f) k ≡ Some note → IsFresh (first_in (firsts_of t) f) (history_in files f) note.lower (length (history_in files f)) note.size)
+        (λ f. slice_get (notes_at (stand_of r.job).files f) k ≡ Some note → IsFresh (first_in (firsts_of t) f) (history_seen p f) note.lower (length (history_seen p f)) note.size)
         (λ f near at. let (c, there, same) = r.left.notes f k note at in
-        let ok = (account f near).notes g k r.left.mine r.left.refusals c r.left.files_back there in
-        subst (λ (z : First × List Entry × Note). IsFresh z.0 z.1 z.2.lower (length z.1) z.2.size) (λ i. (first_in (back.later.firsts i) f, sym (history_there f near) i, same i))
+        let ok = (read f near).account.notes g k r.left.mine r.left.refusals c r.left.files_back there in
+        subst (λ (z : First × Note). IsFresh z.0 (history_seen p f) z.1.lower (length (history_seen p f)) z.1.size) (λ i. (first_in (back.later.firsts i) f, same i))
         (ok.at, ok.above, ok.within, (omega arith), ok.is))
         (λ f far at. absurd (none_is note (ap (λ (x : FileView). slice_get x.notes k) (sym (nothing_past f far)) ∙ at)))
         f at
 
-    one_part : IsPart (count_of t) (first_in (firsts_of t)) (history_in files) (log_in trees) g cs its
+    one_part : IsPart (count_of t) (first_in (firsts_of t)) (history_seen p) (log_seen q) g cs its
     one_part = record {
       number = r.number;
       count = r.count;
-      run = settled g (count_of t) (first_in (firsts_of t)) (λ f. 0) (history_at (stand_of r.job).files) (history_in files) (log_at (stand_of r.job).map) (log_in trees)
+      run = settled g (count_of t) (first_in (firsts_of t)) (λ f. 0) (history_at (stand_of r.job).files) (history_seen p) (log_at (stand_of r.job).map) (log_seen q)
           (notes_at (stand_of r.job).files) cs its.lines goes_on log_goes_on settles r.run;
     }
 
-    one_fair : t.guests ≡ 1 → IsFair (count_of t) (log_in trees) cs its.lines
+    one_fair : t.guests ≡ 1 → IsFair (count_of t) (log_seen q) cs its.lines
     one_fair alone = record {
       barred = r.barred (inl alone);
-      held_up = held_up_on (count_of t) (log_at (stand_of r.job).map) (log_in trees) cs its.lines log_goes_on (r.held_up alone);
+      held_up = held_up_on (count_of t) (log_at (stand_of r.job).map) (log_seen q) cs its.lines log_goes_on (r.held_up alone);
     }
 
     one_done : count_of t ≡ 0 → AreCalls (length (firsts_of t)) (count_of t) cs → AllDone its.lines
@@ -296,15 +255,14 @@ module _ (t : Team) (guests : List (List Call)) (p : FilesKnown) (q : RangesKnow
 
   -- ---- all of them
 
-  known : (f n : ℕ) (e : Entry) → slice_get (history_in files f) n ≡ Some e → e.guest < length guests
-  known = by_file (λ f. (n : ℕ) (e : Entry) → slice_get (history_in files f) n ≡ Some e → e.guest < length guests)
+  known : (f n : ℕ) (e : Entry) → slice_get (history_seen p f) n ≡ Some e → e.guest < length guests
+  known = by_file (λ f. (n : ℕ) (e : Entry) → slice_get (history_seen p f) n ≡ Some e → e.guest < length guests)
       (λ f near n e at.
-      let a = account f near in
-      let there : slice_get (part p.view f).seen n ≡ Some e = ap (λ (h : List Entry). slice_get h n) (sym (history_there f near)) ∙ at in
+      let a = (read f near).account in
       dite (dec_le (length guests) e.guest)
       (λ high. dite (ℕ_discrete e.guest root)
-      (λ same. let lt = back.later.first.own f n e there same in absurd (omega (arith, lt)))
-      (λ other. let lt = a.never e.guest (ret.others e.guest high (a.small n e there) other) n e there refl in absurd (omega (arith, lt))))
+      (λ same. let lt = back.later.first.own f n e at same in absurd (omega (arith, lt)))
+      (λ other. let lt = a.never e.guest (ret.others e.guest high (a.small n e at) other) n e at refl in absurd (omega (arith, lt))))
       (λ low. lt_of_not-le low))
       (λ f far n e at. absurd (none_is e (ap (λ (h : List Entry). slice_get h n) (sym (no_history f far)) ∙ at)))
 
@@ -317,13 +275,10 @@ module _ (t : Team) (guests : List (List Call)) (p : FilesKnown) (q : RangesKnow
         lines = r.printable;
       }
 
-  pub all_run : HasRun (firsts_of t) (count_of t) 0 guests files trees parts
+  pub all_run : HasRun (firsts_of t) (count_of t) 0 guests (history_seen p) (log_seen q) parts
   all_run = record {
-    files_long = many;
-    trees_long = many';
-    files_there = λ f near. (past_seen p.view f, seen f near, ap (λ (xs : List First). first_in xs f) back.later.firsts);
-    trees_there = λ f near. let (log, there, begins, is_sound) = seen' f near in
-        (log, there, subst (λ (n : ℕ). IsTrue (sound n log)) back.later.ranges_long is_sound);
+    sound_logs = λ f near. subst (λ (n : ℕ). IsTrue (sound n (log_seen q f))) back.later.ranges_long (read f near).sound_log;
+    no_more = no_log;
     count = ret.count;
     runs = λ g cs x at at'. one_part g cs x (ret.each g cs x at at');
     known = known;

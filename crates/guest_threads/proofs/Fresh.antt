@@ -6,7 +6,7 @@ use Rattle.std.proofs.lemmas.List.FromFn.{length-map-range_with_len}
 use Rattle.atomic_table.specs.Seated.{TableId}
 use Rattle.seats.specs.Views.{guests as all_numbers}
 use Rattle.plain_file.specs.declared.operations.First.{First}
-use Rattle.plain_file.specs.Board.{FileView, no_file}
+use Rattle.plain_file.specs.Board.{FileView, no_file, file_at}
 use Rattle.plain_file.specs.Plain.{first_mark}
 use Rattle.plain_file.specs.Turns.{leases_on}
 use Rattle.page_map.specs.declared.ranges.Target.{Target}
@@ -225,6 +225,12 @@ module _ (t : TableId) (firsts : List First) (leasers n : ℕ) where
   pub fresh_history : (f : ℕ) → history_at (files_board (fresh_files t firsts leasers n)) f ≡ []
   fresh_history f = listed_any (λ (v : FileView). v.history ≡ []) (file_view (fresh_files t firsts leasers n).view) no_file (length (replicate (length firsts) unseen)) f
       (λ lt. ap whole_of (same_at unseen (length firsts) f))
+      (λ le. refl)
+
+  -- no bar was refused
+  pub fresh_refusals : (f : ℕ) → (file_at (files_board (fresh_files t firsts leasers n)) f).refusals ≡ 0
+  fresh_refusals f = listed_any (λ (v : FileView). v.refusals ≡ 0) (file_view (fresh_files t firsts leasers n).view) no_file (length (replicate (length firsts) unseen)) f
+      (λ lt. refl)
       (λ le. refl)
 
 -- ---- the board of a new pass of ranges

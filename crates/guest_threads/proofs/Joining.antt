@@ -9,7 +9,8 @@ use Rattle.page_map.specs.declared.ranges.LogEntry.{LogEntry}
 use Rattle.page_map.specs.Board.{log_at}
 use Rattle.file_share.specs.Table.{part, first_at}
 use Rattle.file_share.specs.Known.{Known as FilesKnown, IsIdle as FilesIdle, IsSoundPart, TookIn as FilesTaken}
-use Rattle.file_share.specs.Boards.{board_of as files_board}
+use Rattle.file_share.specs.Boards.{board_of as files_board, file_view}
+use Rattle.file_share.proofs.Listing.{length_listed}
 use Rattle.range_share.specs.Table.{IsIdle as RangesIdle}
 use Rattle.range_share.specs.Steps.{IsShowing, branch_of}
 use Rattle.range_share.specs.Known.{Known as RangesKnown, TookIn as RangesTaken}
@@ -20,12 +21,13 @@ use Rattle.guest_wire.specs.declared.driver.FileRef.{FileRef}
 use Rattle.guest_dax.specs.Stands.{stand}
 use Rattle.guest_io.specs.Requests.{IsHome}
 use Rattle.guest_io.specs.Holds.{LeavesRest, SameEntries}
+use Rattle.guest_io.specs.Going.{KeepsRefusals}
 use Rattle.guest_run.proofs.Places.{some_is, within, at_end}
 use Rattle.transcript_text.specs.declared.transcripts.GuestPart.{GuestPart}
 use Rattle.transcript_text.specs.declared.transcripts.Numbered.{Numbered}
 use Rattle.guest_threads.specs.declared.jobs.Job.{Job}
 use Rattle.guest_threads.specs.Jobs.{AreFirst, AreLater, AreTold, CanJoin, CanJoinAll, HasJoined, HasLeft, JoinsOne, stand_of}
-use Rattle.guest_threads.proofs.JoiningFiles.{same_table, files_idle, seen_shown, note_shown, files_table, files_guest, files_long, files_still, files_own, files_back, files_else}
+use Rattle.guest_threads.proofs.JoiningFiles.{same_table, files_idle, seen_shown, refusals_shown, note_shown, files_table, files_guest, files_long, files_still, files_own, files_back, files_else}
 use Rattle.guest_threads.proofs.JoiningLogs.{ranges_idle, log_shown, begins_on, ranges_table, ranges_guest, ranges_long, logs_long, ranges_still, ranges_back, ranges_else}
 
 -- ---- one job
@@ -43,11 +45,16 @@ pub record IsFinished (p : FilesKnown) (q : RangesKnown) (n : ℕ) (j : Job) (o 
   pub unpinned : sum (ranges_board r).hands.pins ≡ 0
   pub entries : SameEntries (stand_of j).files (files_board o)
   pub logs : (ranges_board r).ranges.logs ≡ (stand_of j).map.ranges.logs
+  pub many : length (files_board o).files ≡ length (stand_of j).files.files
+  pub refusals : KeepsRefusals (stand_of j).files (files_board o)
+  pub rounds : (ranges_board r).ranges.rounds ≡ (stand_of j).map.ranges.rounds
+  pub sweeps : (ranges_board r).ranges.sweeps ≡ (stand_of j).map.ranges.sweeps
 
 pub finished : (p : FilesKnown) (q : RangesKnown) (n : ℕ) (j : Job) → CanJoin p q n j → (w : WireView) (refs : List FileRef) (o : FilesKnown) (r : RangesKnown)
     → IsHome (stand w (files_board o) (ranges_board r)) refs → LeavesRest (stand_of j) (stand w (files_board o) (ranges_board r)) → SameEntries (stand_of j).files (files_board o)
-    → (ranges_board r).ranges.logs ≡ (stand_of j).map.ranges.logs → sum (ranges_board r).hands.pins ≡ 0 → sum (files_board o).hands.leases ≡ 0 → IsFinished p q n j o r
-finished p q n j can w refs o r home rest entries logs pins leases = record {
+    → (ranges_board r).ranges.logs ≡ (stand_of j).map.ranges.logs → sum (ranges_board r).hands.pins ≡ 0 → sum (files_board o).hands.leases ≡ 0
+    → KeepsRefusals (stand_of j).files (files_board o) → (ranges_board r).ranges.rounds ≡ (stand_of j).map.ranges.rounds → (ranges_board r).ranges.sweeps ≡ (stand_of j).map.ranges.sweeps → IsFinished p q n j o r
+finished p q n j can w refs o r home rest entries logs pins leases refusals rounds sweeps = record {
   files_table = same_table o.table j.guest.dax.files.pass.table rest.files.over ∙ can.files_table;
   ranges_table = same_table r.table j.guest.dax.ranges.pass.table rest.map.over ∙ can.ranges_table;
   files_guest = rest.files.guest ∙ can.files_guest;
@@ -58,6 +65,10 @@ finished p q n j can w refs o r home rest entries logs pins leases = record {
   unpinned = pins;
   entries = entries;
   logs = logs;
+  many = rest.files.count;
+  refusals = refusals;
+  rounds = rounds;
+  sweeps = sweeps;
 }
 
 pub finished_idle : (p : FilesKnown) (q : RangesKnown) (n : ℕ) (j : Job) (o : FilesKnown) (r : RangesKnown) → IsFinished p q n j o r → IsShowing r.view → RangesIdle r.view.mine
@@ -93,12 +104,15 @@ joins_one p q n j o r p' q' first files_out ranges_out fin parts files ranges = 
     files_back = files_back p o p' files n files_out fin.files_guest;
     histories = λ f. sym (seen_shown o f fin.files_idle parts) ∙ fin.entries.history f;
     notes = λ f k m at. note_shown o f k m (fin.entries.notes f k m at);
+    refused = λ f near. refusals_shown o f (let a = fin.many in let b = length_listed (file_view o.view) (length o.view.mine.files) in omega (arith, near, a, b)) ∙ fin.refusals f;
     moved = r.view.mine;
     noted = r.view.noted;
     ranges_back = ranges_back q r q' ranges n ranges_out fin.ranges_guest;
     logs = λ f.
         let same : (branch_of r.view f).seen ≡ log_at (stand_of j).map f = sym (log_shown r f) ∙ ap (λ (l : List (List LogEntry)). get_or l f []) fin.logs in
         subst (λ (l : List LogEntry). Begins l (branch_of q'.view f).seen) same (ranges.other f);
+    rounds = fin.rounds;
+    sweeps = fin.sweeps;
   };
   files_rest = files_else p o p' files n fin.files_guest;
   ranges_rest = ranges_else q r q' ranges n fin.ranges_guest;
@@ -106,7 +120,7 @@ joins_one p q n j o r p' q' first files_out ranges_out fin parts files ranges = 
 
 -- ---- all jobs
 
-later_same : (p : FilesKnown) (q : RangesKnown) → AreFirst p q → AreLater p q p q
+pub later_same : (p : FilesKnown) (q : RangesKnown) → AreFirst p q → AreLater p q p q
 later_same p q first = record {
   first = first;
   files_table = refl;
@@ -139,10 +153,13 @@ left_on j n a b c d left files ranges later = record {
   files_back = files ∙ left.files_back;
   histories = left.histories;
   notes = left.notes;
+  refused = left.refused;
   moved = left.moved;
   noted = left.noted;
   ranges_back = ranges ∙ left.ranges_back;
   logs = λ f. begins_on (log_at (stand_of j).map f) (branch_of b.view f).seen (branch_of d.view f).seen (left.logs f) (later.logs f);
+  rounds = left.rounds;
+  sweeps = left.sweeps;
 }
 
 pub none_joined : (p : FilesKnown) (q : RangesKnown) (jobs : List Job) → AreFirst p q → HasJoined p q jobs 0 p q

@@ -20,7 +20,7 @@ use Rattle.files_core.specs.Laws.{Begins}
 use Rattle.files_core.specs.Shown.{Shown}
 use Rattle.file_share.specs.Table.{unseen, in_list, part, first_at, merged_files}
 use Rattle.file_share.specs.Known.{Known, IsIdle, IsSoundPart, TookIn}
-use Rattle.file_share.specs.Boards.{listed, numbers_of, note_of, has_turn, has_bar, leases_had, file_view, board_of}
+use Rattle.file_share.specs.Boards.{listed, numbers_of, note_of, refusals_of, has_turn, has_bar, leases_had, file_view, board_of}
 use Rattle.file_share.proofs.Listing.{listed_at, length_listed, none_true}
 use Rattle.file_share.proofs.Places.{get_map}
 use Rattle.guest_run.proofs.Places.{in_front}
@@ -67,6 +67,10 @@ module _ (p : Known) (f : ℕ) where
       (λ far. ap (λ (v : FileView). v.history) (far_is far) ∙ sym (ap (λ (m : Shown). m.seen) (get_or_past p.view.mine.files f unseen far)))
       (λ not_far. let near : f < length p.view.mine.files = lt_of_not-le not_far in
       ap (λ (v : FileView). v.history) (near_is near) ∙ ap (with_entry (part p.view f).seen) ((parts f near).bare (idle f).0))
+
+  -- the board shows the refused bars that it noted
+  pub refusals_shown : f < length p.view.mine.files → refusals_of f p.view.noted ≡ (file_at (board_of p) f).refusals
+  refusals_shown near = sym (ap (λ (v : FileView). v.refusals) (near_is near))
 
   -- what it noted is what the board shows
   pub note_shown : (k : ℕ) (m : Note) → slice_get (file_at (board_of p) f).notes k ≡ Some m → (c : CoreNote) × (slice_get (part p.view f).notes k ≡ Some c) × (note_of c ≡ m)

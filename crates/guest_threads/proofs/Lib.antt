@@ -8,3 +8,5 @@ pub mod JoiningFiles
 pub mod JoiningLogs
 pub mod Joining
 pub mod Backing
+pub mod Reading
+pub mod Tallying

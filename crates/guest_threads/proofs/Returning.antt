@@ -157,7 +157,7 @@ module _ (t : Team) (guests : List (List Call)) (old new : List Job) (p : FilesK
           (told.1 g k part has' at').1 (ran.1 g j k has has').told in
           subst (λ (z : List Call). IsTold (stand_of j) (stand_of k) z part.lines) (some_is run.0 cs (sym run.1 ∙ at)) run.2
 
-      its_table : (g : ℕ) (k : Job) → slice_get new g ≡ Some k → k.guest.dax.files.pass.table ≡ t.files.table
+      pub its_table : (g : ℕ) (k : Job) → slice_get new g ≡ Some k → k.guest.dax.files.pass.table ≡ t.files.table
       its_table g k has = ((can_join_ran t guests old new s.is_team s.all s.are_out ran).each g k has).files_table ∙ (first_out t t.guests s.is_team (omega arith)).files_table
 
       one_of : (g : ℕ) (cs : List Call) (part : GuestPart) (j k : Job) → g < t.guests → slice_get guests g ≡ Some cs → slice_get parts g ≡ Some part

@@ -1,20 +1,24 @@
 -- What the guests of a team have alike, what a guest's job is before its work and after it, and what the first passes of both tables keep of it.
-use Rattle.std.specs.Prelude.{◌≡◌, ◌≢◌, ◌⊎◌, ℕ, zero, suc, ◌*◌, ◌+◌, ◌<◌, ◌≤◌, ◌==◌, true, List, [], ◌∷◌, ◌++◌, length, slice_get, Some, None, IfSome, if◌then◌else◌}
+use Rattle.std.specs.Prelude.{◌≡◌, ◌≢◌, ◌⊎◌, ℕ, zero, suc, ◌*◌, ◌+◌, ◌-◌, ◌^◌, ◌<◌, ◌≤◌, ◌==◌, min, true, IsTrue, List, [], ◌∷◌, ◌++◌, length, slice_get, Some, None, IfSome, if◌then◌else◌}
 use Rattle.std.specs.List.{AllByRecursion}
 use mathlib.Core.Option.{some}
 use lib.ListN.{get_elem?}
 use Rattle.seats.specs.Views.{unused, out, back, root, guests as all_numbers, AllIn}
+use Rattle.plain_file.specs.declared.operations.Entry.{Entry}
 use Rattle.plain_file.specs.declared.operations.First.{First}
 use Rattle.plain_file.specs.Board.{Note, file_at}
 use Rattle.page_map.specs.Plain.{range_pages}
 use Rattle.page_map.specs.Board.{log_at}
+use Rattle.page_map.specs.declared.ranges.LogEntry.{LogEntry}
+use Rattle.page_map.specs.Logs.{sound}
 use Rattle.range_tree.specs.Ranges.{range_count}
 use Rattle.files_core.specs.declared.rows.Note.{Note as CoreNote}
 use Rattle.files_core.specs.Good.{Within}
 use Rattle.files_core.specs.Laws.{Begins}
 use Rattle.file_share.specs.Table.{Mine as FilesMine, Refusal, in_list, part, first_in}
-use Rattle.file_share.specs.Known.{Known as FilesKnown, IsIdle as FilesIdle, first_pass as first_files, parent_pass as files_parent, child_pass as files_child}
-use Rattle.file_share.specs.Boards.{board_of as files_board, note_of}
+use Rattle.file_share.specs.Steps.{Accounted}
+use Rattle.file_share.specs.Known.{Known as FilesKnown, IsIdle as FilesIdle, first_pass as first_files, parent_pass as files_parent, child_pass as files_child, past_seen}
+use Rattle.file_share.specs.Boards.{board_of as files_board, note_of, refusals_of}
 use Rattle.range_share.specs.Table.{Mine as RangesMine, Noted, IsIdle as RangesIdle}
 use Rattle.range_share.specs.Steps.{branch_of, ranges_of, files_of}
 use Rattle.range_share.specs.Known.{Known as RangesKnown, first_pass as first_ranges, parent_pass as ranges_parent, child_pass as ranges_child}
@@ -30,7 +34,7 @@ use Rattle.transcript_text.specs.declared.transcripts.GuestPart.{GuestPart}
 use Rattle.transcript_text.specs.declared.transcripts.Numbered.{Numbered}
 use Rattle.transcript_text.specs.TranscriptReading.{IsPrintableNumbered}
 use Rattle.guest_run.specs.Runs.{IsRunFrom}
-use Rattle.guest_run.specs.Working.{IsIdle, TakesAlone, LeasesAlone, AreCalls, AreBarred, AreHeldUp, max_calls, first_at, history_at, notes_at}
+use Rattle.guest_run.specs.Working.{IsIdle, TakesAlone, LeasesAlone, AreCalls, AreBarred, AreHeldUp, HasCounted, busy_lines, leased_lines, max_calls, first_at, history_at, notes_at}
 use Rattle.dax_host.specs.InTurn.{shared_wire}
 use Rattle.dax_host.specs.Host.{host_wire}
 use Rattle.guest_threads.specs.declared.jobs.Job.{Job}
@@ -144,6 +148,11 @@ pub record HasWorked (guests : List (List Call)) (n : ℕ) (j k : Job) : Type 0 
   pub refs : k.guest.dax.refs ≡ j.guest.dax.refs
   pub told : IfSome k.lines (λ ls. (cs : List Call) × (slice_get guests n ≡ Some cs) × IsTold (stand_of j) (stand_of k) cs ls)
 
+-- What the boards of a member's job counted in its work: just its guest's lines, or at least as many sweeps as it has turns.
+pub record HasTallied (background : ℕ) (guests : List (List Call)) (n : ℕ) (j k : Job) : Type 0 where
+  pub counted : (cs : List Call) (ls : List Numbered) → slice_get guests n ≡ Some cs → k.lines ≡ Some ls → HasCounted (stand_of j) (stand_of k) cs ls
+  pub swept : (ls : List Numbered) → length guests ≤ n → k.lines ≡ Some ls → min ((stand_of j).map.ranges.sweeps + background) (2 ^ 64 - 1) ≤ (stand_of k).map.ranges.sweeps
+
 abbrev pub MayRun : List (List Call) → List Job → Type 0
 MayRun guests jobs = (n : ℕ) (j : Job) → slice_get jobs n ≡ Some j → MayWork guests n j
 
@@ -156,6 +165,9 @@ MayAllTakePart background guests jobs = (n : ℕ) (j : Job) → slice_get jobs n
 
 abbrev pub HaveRun : List (List Call) → List Job → List Job → Type 0
 HaveRun guests old new = (length new ≡ length old) × ((n : ℕ) (j k : Job) → slice_get old n ≡ Some j → slice_get new n ≡ Some k → HasWorked guests n j k)
+
+abbrev pub HaveTallied : ℕ → List (List Call) → List Job → List Job → Type 0
+HaveTallied background guests old new = (n : ℕ) (j k : Job) → slice_get old n ≡ Some j → slice_get new n ≡ Some k → HasTallied background guests n j k
 
 -- ---- passes that come back
 
@@ -190,17 +202,20 @@ pub record AreLater (p : FilesKnown) (q : RangesKnown) (p' : FilesKnown) (q' : R
   pub logs_long : files_of q'.view ≡ files_of q.view
   pub logs : (f : ℕ) → Begins (branch_of q.view f).seen (branch_of q'.view f).seen
 
--- What the first passes keep of a guest whose passes came back: what its boards had seen of each file and noted, by its number; and what they had seen of each placement log begins what the first has.
+-- What the first passes keep of a guest whose passes came back: what its boards had seen of each file and noted, by its number, and what they had counted; and what they had seen of each placement log begins what the first has.
 pub record HasLeft (j : Job) (n : ℕ) (p : FilesKnown) (q : RangesKnown) : Type 0 where
   pub mine : FilesMine
   pub refusals : List Refusal
   pub files_back : get_elem? p.view.numbers n ≡ some (back mine refusals)
   pub histories : (f : ℕ) → (in_list mine.files f).seen ≡ history_at (stand_of j).files f
   pub notes : (f k : ℕ) (m : Note) → slice_get (file_at (stand_of j).files f).notes k ≡ Some m → (c : CoreNote) × (slice_get (in_list mine.files f).notes k ≡ Some c) × (note_of c ≡ m)
+  pub refused : (f : ℕ) → f < length (stand_of j).files.files → refusals_of f refusals ≡ (file_at (stand_of j).files f).refusals
   pub moved : RangesMine
   pub noted : Noted
   pub ranges_back : get_elem? q.view.numbers n ≡ some (back moved noted)
   pub logs : (f : ℕ) → Begins (log_at (stand_of j).map f) (branch_of q.view f).seen
+  pub rounds : noted.rounds ≡ (stand_of j).map.ranges.rounds
+  pub sweeps : noted.sweeps ≡ (stand_of j).map.ranges.sweeps
 
 -- the passes of one job came back, and no other number has changed
 pub record JoinsOne (p : FilesKnown) (q : RangesKnown) (j : Job) (n : ℕ) (p' : FilesKnown) (q' : RangesKnown) : Type 0 where
@@ -261,3 +276,53 @@ pub record Returned (t : Team) (guests : List (List Call)) (p : FilesKnown) (q :
   pub count : length parts ≡ length guests
   pub each : (g : ℕ) (cs : List Call) (part : GuestPart) → slice_get guests g ≡ Some cs → slice_get parts g ≡ Some part → IsReturned t g cs part p q
   pub others : (n : ℕ) → length guests ≤ n → n < all_numbers → n ≢ root → get_elem? p.view.numbers n ≡ some unused
+
+-- ---- what the first passes keep of counts
+
+-- A guest's passes counted just its lines: a round of all ranges, each pinned or moving, for each busy one, and a refused bar on a file for each leased one.
+pub record IsTallied (g : ℕ) (cs : List Call) (ls : List Numbered) (p : FilesKnown) (q : RangesKnown) : Type 0 where
+  pub mine : FilesMine
+  pub refusals : List Refusal
+  pub files_back : get_elem? p.view.numbers g ≡ some (back mine refusals)
+  pub leased : (f : ℕ) → f < length p.view.mine.files → refusals_of f refusals ≡ leased_lines cs ls f
+  pub moved : RangesMine
+  pub noted : Noted
+  pub ranges_back : get_elem? q.view.numbers g ≡ some (back moved noted)
+  pub busy : noted.rounds ≡ busy_lines ls
+
+-- the pass with this number counted at least so many sweeps, up to the last value of the count
+pub record HasSwept (background n : ℕ) (q : RangesKnown) : Type 0 where
+  pub moved : RangesMine
+  pub noted : Noted
+  pub ranges_back : get_elem? q.view.numbers n ≡ some (back moved noted)
+  pub swept : min background (2 ^ 64 - 1) ≤ noted.sweeps
+
+-- each guest's passes did, and those of the background, where there is one; its number is that of the guests
+pub record AreTallied (background : ℕ) (guests : List (List Call)) (p : FilesKnown) (q : RangesKnown) (parts : List GuestPart) : Type 0 where
+  pub guests_are : (g : ℕ) (cs : List Call) (part : GuestPart) → slice_get guests g ≡ Some cs → slice_get parts g ≡ Some part → IsTallied g cs part.lines p q
+  pub background_is : background ≢ 0 → HasSwept background (length guests) q
+
+-- ---- reading the first passes again
+
+-- what they have seen of a file, and of its placement log
+abbrev pub history_seen : FilesKnown → ℕ → List Entry
+history_seen p f = (part p.view f).seen
+
+abbrev pub log_seen : RangesKnown → ℕ → List LogEntry
+log_seen q f = (branch_of q.view f).seen
+
+-- The first passes took turns and trees, and gave them back: they have seen more of the logs, and all else is as before.
+pub record AreReread (p : FilesKnown) (q : RangesKnown) (p' : FilesKnown) (q' : RangesKnown) : Type 0 where
+  pub later : AreLater p q p' q'
+  pub files_numbers : p'.view.numbers ≡ p.view.numbers
+  pub ranges_numbers : q'.view.numbers ≡ q.view.numbers
+  pub histories : (f : ℕ) → history_seen p' f ≡ history_seen p f
+
+-- of each entry of a file it is known whose it is, and its log is sound
+pub record IsRead (p : FilesKnown) (q : RangesKnown) (f : ℕ) : Type 0 where
+  pub account : Accounted p.view.numbers f (past_seen p.view f)
+  pub sound_log : IsTrue (sound (ranges_of q.view) (log_seen q f))
+
+-- that of the first so many files
+abbrev pub AreRead : FilesKnown → RangesKnown → ℕ → Type 0
+AreRead p q n = (f : ℕ) → f < n → IsRead p q f

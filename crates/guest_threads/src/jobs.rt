@@ -1,8 +1,9 @@
-ghost use Rattle.std.specs.Prelude.{◌≡◌, ◌≤◌, ◌<◌, ℕ, List as Calls, [], length, slice_get, Some};
+ghost use Rattle.std.specs.Prelude.{◌≡◌, ◌+◌, ◌-◌, ◌^◌, ◌≤◌, ◌<◌, ℕ, List as Calls, [], length, min, slice_get, Some};
 ghost use Rattle.range_tree.specs.Ranges.{range_count};
 ghost use Rattle.dax_script.specs.declared.scripts.Call.{Call};
+ghost use Rattle.transcript_text.specs.declared.transcripts.Numbered.{Numbered};
 ghost use Rattle.guest_run.specs.Working.{IsIdle};
-ghost use Rattle.guest_threads.specs.Jobs.{MayTakePart, HasWorked, team_of, stand_of};
+ghost use Rattle.guest_threads.specs.Jobs.{MayTakePart, HasWorked, HasTallied, team_of, stand_of};
 
 use dax_host::HostWire;
 use dax_script::Call;
@@ -38,7 +39,8 @@ pub(crate) fn members(guests: &[List<Call>], background: u32) -> u32
 fn sweep<'a, R: Wait>(rt: &R, alloc: Global, turns: u32, job: &mut Job<'a>)
     requires idle { IsIdle (stand_of job.old) job.old.guest.dax.refs job.old.guest.holds }
     requires ranges { 0 < range_count (stand_of job.old).map }
-    ensures { (members : Calls (Calls Call)) (n : ℕ) → slice_get members n ≡ Some [] → HasWorked members n job.old job.new }
+    ensures worked { (members : Calls (Calls Call)) (n : ℕ) → slice_get members n ≡ Some [] → HasWorked members n job.old job.new }
+    ensures swept { (ls : Calls Numbered) → job.new.lines ≡ Some ls → min ((stand_of job.old).map.ranges.sweeps + turns) (2 ^ 64 - 1) ≤ (stand_of job.new).map.ranges.sweeps }
 {
     job.lines = match background(rt, alloc, &mut job.guest, turns) {
         Ok(()) => Some(List::new(alloc)),
@@ -58,7 +60,8 @@ pub(crate) fn work<'a, R: Wait, G: Gate>(
     gate: &G,
 )
     requires { MayTakePart background guests.now number job.old }
-    ensures { HasWorked (team_of background guests.now) number job.old job.new }
+    ensures worked { HasWorked (team_of background guests.now) number job.old job.new }
+    ensures tallied { HasTallied background guests.now number job.old job.new }
 {
     if number >= guests.len() {
         sweep(rt, alloc, background, job);

@@ -4,7 +4,7 @@ ghost use Rattle.range_share.specs.Steps.{ranges_of};
 ghost use Rattle.dax_host.specs.InTurn.{shared_wire};
 ghost use Rattle.dax_host.specs.Host.{host_wire};
 ghost use Rattle.transcript_text.specs.declared.transcripts.Numbered.{Numbered};
-ghost use Rattle.guest_threads.specs.Jobs.{Team, team, team_of, IsTeam, AreCallsOf, AreOut, MaySweep, MayTakePart, HasWorked, MayAllTakePart, HaveRun, AreFirst, CanJoin, JoinsOne, CanJoinAll, HasJoined, AreTold, AreSeated, AreBack, Returned, files_out, ranges_out};
+ghost use Rattle.guest_threads.specs.Jobs.{Team, team, team_of, IsTeam, AreCallsOf, AreOut, MaySweep, MayTakePart, HasWorked, MayAllTakePart, HaveRun, HasTallied, HaveTallied, AreFirst, CanJoin, JoinsOne, CanJoinAll, HasJoined, AreTold, AreSeated, AreBack, Returned, AreTallied, files_out, ranges_out};
 
 use crate::jobs::{Job, members, work};
 use daemon_core::Daemon;
@@ -91,7 +91,8 @@ fn run_all<'a, R: Threads + Wait + Sync, G: Gate + Sync>(
     gate: &G,
 )
     requires { MayAllTakePart background guests.now jobs.old }
-    ensures { HaveRun (team_of background guests.now) jobs.old jobs.new }
+    ensures ran { HaveRun (team_of background guests.now) jobs.old jobs.new }
+    ensures tallied { HaveTallied background guests.now jobs.old jobs.new }
 {
     let threads = jobs.len().max(1);
     thread::for_each_mut(
@@ -100,7 +101,7 @@ fn run_all<'a, R: Threads + Wait + Sync, G: Gate + Sync>(
         threads,
         &|number: usize, job: &mut Job|
             requires { MayTakePart background guests.now number job.old }
-            ensures { HasWorked (team_of background guests.entry.now) number job.old job.new }
+            ensures { HasWorked (team_of background guests.entry.now) number job.old job.new × HasTallied background guests.entry.now number job.old job.new }
         { work(rt, alloc, guests, background, number, job, gate) },
     );
 }
@@ -190,6 +191,7 @@ fn run_jobs<'a, R: Threads + Wait + Sync, G: Gate + Sync>(
     requires background { MaySweep background (ranges_of range_pass.old.view) }
     ensures back { (t : Team) → AreSeated t (team_of background guests.now) jobs.entry.items file_pass.old range_pass.old → AreBack t file_pass.new range_pass.new }
     ensures returned { IfOk result (λ parts. (t : Team) → AreSeated t (team_of background guests.now) jobs.entry.items file_pass.old range_pass.old → Returned t (team_of background guests.now) file_pass.new range_pass.new parts) }
+    ensures tallied { IfOk result (λ parts. (t : Team) → AreSeated t (team_of background guests.now) jobs.entry.items file_pass.old range_pass.old → AreTallied background guests.now file_pass.new range_pass.new parts) }
 {
     let mut jobs = jobs;
     run_all(rt, alloc, guests, background, jobs.as_mut_slice(), gate);
@@ -220,6 +222,7 @@ pub(crate) fn run_team<R: Threads + Wait + Sync, G: Gate + Sync>(
     requires background { MaySweep background (ranges_of range_pass.old.view) }
     ensures back { AreBack (team daemon.now opened.now file_pass.old range_pass.old (length (team_of background guests.now))) file_pass.new range_pass.new }
     ensures returned { IfOk result (Returned (team daemon.now opened.now file_pass.old range_pass.old (length (team_of background guests.now))) (team_of background guests.now) file_pass.new range_pass.new) }
+    ensures tallied { IfOk result (AreTallied background guests.now file_pass.new range_pass.new) }
 {
     let count = members(guests, background);
     let (jobs, all) = split_all(

@@ -11,7 +11,7 @@ join-requires-clause-free c =
     let n = j.guest.dax.files.pass.view.guest in
     let made = c.finish.result in
     let e = c.finish.ensures in
-    let done = finished p q n j c.requires.job (host_wire made.driver.wire) made.refs made.files.pass made.ranges.pass e.home e.rest e.entries e.logs e.pins e.leases in
+    let done = finished p q n j c.requires.job (host_wire made.driver.wire) made.refs made.files.pass made.ranges.pass e.home e.rest e.entries e.logs e.pins e.leases e.refusals e.rounds e.sweeps in
     let fin = subst (λ x. IsFinished p q n j x.1.pass x.2.pass) (sym c.into_parts-client.ensures) done in
     (λ f. (c.requires.first.files_idle f).0, fin.files_idle)
 
@@ -23,7 +23,7 @@ join-requires-2-clause-free c =
     let n = j.guest.dax.files.pass.view.guest in
     let made = c.finish.result in
     let e = c.finish.ensures in
-    let done = finished p q n j c.requires.job (host_wire made.driver.wire) made.refs made.files.pass made.ranges.pass e.home e.rest e.entries e.logs e.pins e.leases in
+    let done = finished p q n j c.requires.job (host_wire made.driver.wire) made.refs made.files.pass made.ranges.pass e.home e.rest e.entries e.logs e.pins e.leases e.refusals e.rounds e.sweeps in
     let fin = subst (λ x. IsFinished p q n j x.1.pass x.2.pass) (sym c.into_parts-client.ensures) done in
     let parts = c.into_parts-client.result in
     (c.requires.first.ranges_idle, finished_idle p q n j parts.1.pass parts.2.pass fin c.sound-2.ensures.showing)
@@ -36,7 +36,7 @@ returns-clause-joined c =
     let n = j.guest.dax.files.pass.view.guest in
     let made = c.finish.result in
     let e = c.finish.ensures in
-    let done = finished p q n j c.requires.job (host_wire made.driver.wire) made.refs made.files.pass made.ranges.pass e.home e.rest e.entries e.logs e.pins e.leases in
+    let done = finished p q n j c.requires.job (host_wire made.driver.wire) made.refs made.files.pass made.ranges.pass e.home e.rest e.entries e.logs e.pins e.leases e.refusals e.rounds e.sweeps in
     let fin = subst (λ x. IsFinished p q n j x.1.pass x.2.pass) (sym c.into_parts-client.ensures) done in
     let parts = c.into_parts-client.result in
     joins_one p q n j parts.1.pass parts.2.pass c.join.new.pass c.join-2.new.pass c.requires.first c.requires.out.0.1 c.requires.out.1.1 fin c.sound.ensures.parts c.join.ensures c.join-2.ensures

@@ -1,5 +1,5 @@
 use Rattle.std.proofs.Common.{◌∙◌, sym, subst, ℕ, length}
-use Rattle.guest_threads.specs.Jobs.{Team, team, team_of, MaySweep, AreSeated, Returned}
+use Rattle.guest_threads.specs.Jobs.{Team, team, team_of, MaySweep, AreSeated, Returned, AreTallied}
 use Rattle.guest_threads.proofs.Returning.{if_ok, none_back, split_later, split_join, split_back, seated_all}
 use Rattle.guest_threads.proofs.Backing.{team_as, back_as, returned_as}
 use Rattle.guest_threads.proofs.teams.run_team.Goals as goal
@@ -87,3 +87,18 @@ returns-clause-returned g c =
     (Returned (team c.args.daemon.now c.args.opened.now c.args.file_pass.now c.args.range_pass.now (length (team_of c.args.background c.args.guests.now))) (team_of c.args.background c.args.guests.now) c.run_jobs.new.file_pass c.run_jobs.new.range_pass)
     c.run_jobs.ensures.returned
     (λ parts of_seated. returned_as c.args.daemon.now c.args.opened.now c.args.file_pass.now c.args.range_pass.now _ _ same (team_of c.args.background c.args.guests.now) c.run_jobs.new.file_pass c.run_jobs.new.range_pass parts (of_seated t seated))
+
+pub returns-clause-tallied : goal.returns-clause-tallied
+returns-clause-tallied g c =
+    let e = c.in_ok-jobs.ensures in
+    let same = c.members-count.ensures in
+    let t = team c.args.daemon.now c.args.opened.now c.args.file_pass.now c.args.range_pass.now c.members-count.result in
+    let is = team_as c.args.daemon.now c.args.opened.now c.args.file_pass.now c.args.range_pass.now _ _ (sym same) c.requires.team in
+    let seated = seated_all t (team_of c.args.background c.args.guests.now) c.in_ok-jobs.jobs.items c.split_all.new.file_pass c.split_all.new.range_pass
+    is same c.requires.calls e.jobs (e.all c.if-not-all.false) e.files e.ranges in
+    if_ok c.run_jobs.result
+    (λ parts. (u : Team) → AreSeated u (team_of c.args.background c.args.guests.now) c.in_ok-jobs.jobs.items c.split_all.new.file_pass c.split_all.new.range_pass
+    → AreTallied c.args.background c.args.guests.now c.run_jobs.new.file_pass c.run_jobs.new.range_pass parts)
+    (AreTallied c.args.background c.args.guests.now c.run_jobs.new.file_pass c.run_jobs.new.range_pass)
+    c.run_jobs.ensures.tallied
+    (λ parts of_seated. of_seated t seated)
