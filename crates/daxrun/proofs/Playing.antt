@@ -2,12 +2,9 @@
 use Rattle.std.proofs.Common.{◌≡◌, ◌∙◌, inl, inr, ap, sym, subst, refl, ℕ, zero, suc, ◌+◌, ◌*◌, ◌<◌, ◌≤◌, ◌&&◌, Bool, true, false, true≢false, List, [], ◌∷◌, ◌++◌, length, map, replicate, take, slice_get, Option, Some, None, arith}
 use Rattle.std.proofs.lemmas.Bool.{cases_lt}
 use Rattle.std.proofs.lemmas.List.{length-replicate}
-use mathlib.Core.Option.{some, some-injective, some-ne-none}
-use lib.ListN.{get_elem?}
 use Rattle.plain_file.specs.declared.operations.Entry.{Entry}
 use Rattle.plain_file.specs.declared.operations.First.{First}
 use Rattle.plain_file.specs.declared.operations.Op.{Op}
-use Rattle.plain_file.specs.History.{Past}
 use Rattle.plain_file.specs.Limits.{max_files}
 use Rattle.plain_file.specs.Plain.{new_board}
 use Rattle.plain_file.specs.Board.{BoardView}
@@ -18,6 +15,7 @@ use Rattle.page_map.specs.Plain.{new_map, range_pages}
 use Rattle.page_map.specs.Logs.{Slot, sound, sound_from, may_follow, next_slots}
 use Rattle.range_tree.specs.Logs.{first_unsound, unsound_at}
 use Rattle.file_share.specs.Table.{first_in}
+use Rattle.file_share.specs.Known.{mark_of}
 use Rattle.fuse_device.specs.State.{State, new_state}
 use Rattle.fuse_device.specs.OpenFiles.{HasOpenFile}
 use Rattle.fuse_device.specs.Promises.{IsServable, world}
@@ -31,22 +29,25 @@ use Rattle.dax_script.specs.declared.scripts.Call.{Call}
 use Rattle.dax_script.specs.declared.scripts.Call.TheVariants as calls
 use Rattle.dax_script.specs.declared.scripts.FileLine.{FileLine}
 use Rattle.dax_script.specs.declared.scripts.Script.{Script}
+use Rattle.transcript_text.specs.declared.transcripts.EntryLine.{EntryLine}
 use Rattle.transcript_text.specs.declared.transcripts.FilePart.{FilePart}
 use Rattle.transcript_text.specs.declared.transcripts.GuestPart.{GuestPart}
 use Rattle.transcript_text.specs.declared.transcripts.Numbered.{Numbered}
 use Rattle.transcript_text.specs.declared.transcripts.Transcript.{Transcript}
 use Rattle.dax_audit.specs.Legal.{IsLegal}
 use Rattle.dax_audit.specs.Tables.{no_log, log_in}
-use Rattle.guest_run.specs.Runs.{Asked, asked, through_hold, part_of, parts_from}
+use Rattle.guest_run.specs.Runs.{Asked, asked, through_hold, entry_line, part_of, parts_from}
 use Rattle.guest_run.specs.Working.{IsCall, AreCalls, IsFair}
 use Rattle.guest_run.proofs.Places.{none_is, some_is, bound, map_len, take_more}
 use Rattle.guest_run.proofs.AllGuests.{legal}
 use Rattle.guest_run.proofs.Unheld.{unheld_done}
 use Rattle.guest_threads.specs.Jobs.{IsServed}
-use Rattle.guest_threads.specs.Ran.{HasRun, history_in, past_history, some_log, log_in as closed_log}
+use Rattle.guest_threads.specs.declared.tellings.FileTold.{FileTold}
+use Rattle.guest_threads.specs.Ran.{HasRun, IsFileTold}
 use Rattle.daxrun.specs.Carried.{names_of, IsPlayable}
+use Rattle.daxrun.specs.Plays.{line_of, told_part}
 use Rattle.daxrun.specs.Run.{IsFairAlone, AreLinesDone}
-use Rattle.daxrun.specs.Session.{IsOpenAt, IsThereIn, empty_firsts, firsts_of, opening_boards}
+use Rattle.daxrun.specs.Session.{IsOpenAt, empty_firsts, firsts_of, opening_boards}
 
 -- ---- a session over empty files
 
@@ -55,35 +56,6 @@ servable_new pages fs s v m state files window few =
     let names : length (names_of fs) ≤ 16 = omega (arith, map_len (λ (f : FileLine). f.name) fs) in
     let enough : 16 ≤ length empty_firsts = omega (arith, length-replicate {A = First} max_files (record { size = 0; fill = 0 })) in
     rw (state, files, window) (servable_at_start 0 pages (names_of fs) empty_firsts names enough)
-
--- ---- files and placement logs that were closed
-
-none_there : {A : Type 0} (f : ℕ) (x : A) → get_elem? [] f ≡ some x → ⊥
-none_there f x e = some-ne-none x (sym e)
-
-pub history_there : (files : List (Option Past)) (f : ℕ) (p : Past) → get_elem? files f ≡ some (Some p) → history_in files f ≡ p.history
-unfolding history_in
-history_there [] f p at = absurd (none_there f (Some p) at)
-history_there (q ∷ files) zero p at = ap past_history (some-injective q (Some p) at)
-history_there (q ∷ files) (suc f) p at = history_there files f p at
-
-pub log_there : (trees : List (Option (List LogEntry))) (f : ℕ) (log : List LogEntry) → get_elem? trees f ≡ some (Some log) → closed_log trees f ≡ log
-unfolding closed_log
-log_there [] f log at = absurd (none_there f (Some log) at)
-log_there (t ∷ trees) zero log at = ap some_log (some-injective t (Some log) at)
-log_there (t ∷ trees) (suc f) log at = log_there trees f log at
-
-pub there_in : (firsts : List First) (ranges background : ℕ) (guests : List (List Call)) (files : List (Option Past)) (trees : List (Option (List LogEntry))) (parts : List GuestPart) → HasRun firsts ranges background guests files trees parts → (f : ℕ) → f < length firsts → IsThereIn files trees f
-there_in firsts ranges background guests files trees parts ran f lt =
-    let p = ran.files_there f lt in
-    let l = ran.trees_there f lt in
-    ((p.0, p.1), (l.0, l.1))
-
-no_log_from : (trees : List (Option (List LogEntry))) (f : ℕ) → length trees ≤ f → closed_log trees f ≡ []
-unfolding closed_log
-no_log_from [] f past = refl
-no_log_from (t ∷ trees) zero past = absurd (omega (arith, past))
-no_log_from (t ∷ trees) (suc f) past = no_log_from trees f (omega (arith, past))
 
 -- ---- a daemon whose files are open
 
@@ -172,19 +144,17 @@ first_told [] f l at = absurd (none_is l at)
 first_told (x ∷ fs) zero l at = ap (λ (y : FileLine). y.first) (sym (some_is x l at))
 first_told (x ∷ fs) (suc f) l at = first_told fs f l at
 
-pub played_legal : (s : Script) (t : Transcript) (files : List (Option Past)) (trees : List (Option (List LogEntry))) → IsPlayable s → t.ranges ≡ s.ranges → t.files ≡ parts_from (history_in files) (closed_log trees) 0 s.files → HasRun (firsts_of s.files) s.ranges s.background s.guests files trees t.guests → IsLegal s t
-played_legal s t files trees h ranges parts ran = legal (first_in (firsts_of s.files)) (history_in files) (closed_log trees) s t (record {
+pub played_legal : (s : Script) (t : Transcript) (h : ℕ → List Entry) (logs : ℕ → List LogEntry) → IsPlayable s → t.ranges ≡ s.ranges → t.files ≡ parts_from h logs 0 s.files → HasRun (firsts_of s.files) s.ranges s.background s.guests h logs t.guests → IsLegal s t
+played_legal s t h logs may ranges parts ran = legal (first_in (firsts_of s.files)) h logs s t (record {
   ranges = ranges;
   firsts = first_told s.files;
   files = parts;
   count = ran.count;
   guests = ran.runs;
-  in_files = λ g n cs c a at at' asks. asked_within (length s.files) s.ranges cs n c a (h.guests.calls g cs at) (h.guests.calls g cs at n c at') asks;
-  held_files = λ g n cs c held at at' asks. held_within (length s.files) s.ranges cs n c held (h.guests.calls g cs at n c at') asks;
+  in_files = λ g n cs c a at at' asks. asked_within (length s.files) s.ranges cs n c a (may.guests.calls g cs at) (may.guests.calls g cs at n c at') asks;
+  held_files = λ g n cs c held at at' asks. held_within (length s.files) s.ranges cs n c held (may.guests.calls g cs at n c at') asks;
   known = ran.known;
-  sound = λ f lt.
-      let x = ran.trees_there f (omega (arith, lt, map_len (λ (l : FileLine). l.first) s.files)) in
-      sound_log s.ranges (closed_log trees f) (ap (sound s.ranges) (log_there trees f x.0 x.1) ∙ x.2);
+  sound = λ f lt. sound_log s.ranges (logs f) (ran.sound_logs f (omega (arith, lt, map_len (λ (l : FileLine). l.first) s.files)));
 })
 
 -- ---- the logs that are told
@@ -199,12 +169,12 @@ log_of_none h logs n [] f past = refl
 log_of_none h logs n (x ∷ fs) zero past = absurd (omega (arith, past))
 log_of_none h logs n (x ∷ fs) (suc f) past = log_of_none h logs (n + 1) fs f (omega (arith, past))
 
--- they are those of the closed trees
-pub logs_told : (t : Transcript) (h : ℕ → List Entry) (trees : List (Option (List LogEntry))) (fs : List FileLine) → t.files ≡ parts_from h (closed_log trees) 0 fs → length trees ≡ length fs → (f : ℕ) → closed_log trees f ≡ log_in t f
+-- they are those that were seen, where there are no more than those of the files
+pub logs_told : (t : Transcript) (h : ℕ → List Entry) (logs : ℕ → List LogEntry) (fs : List FileLine) → t.files ≡ parts_from h logs 0 fs → ((f : ℕ) → length fs ≤ f → logs f ≡ []) → (f : ℕ) → logs f ≡ log_in t f
 unfolding log_in
-logs_told t h trees fs files many f = elim (cases_lt f (length fs)) [
-  | inl lo ↦ (let z : 0 + f ≡ f = omega arith in sym (ap (λ (ps : List FilePart). no_log (slice_get ps f)) files ∙ log_of_part h (closed_log trees) 0 fs f lo ∙ ap (closed_log trees) z))
-  | inr past ↦ no_log_from trees f (omega (arith, past, many)) ∙ sym (ap (λ (ps : List FilePart). no_log (slice_get ps f)) files ∙ log_of_none h (closed_log trees) 0 fs f past)
+logs_told t h logs fs files no_more f = elim (cases_lt f (length fs)) [
+  | inl lo ↦ (let z : 0 + f ≡ f = omega arith in sym (ap (λ (ps : List FilePart). no_log (slice_get ps f)) files ∙ log_of_part h logs 0 fs f lo ∙ ap logs z))
+  | inr past ↦ no_more f past ∙ sym (ap (λ (ps : List FilePart). no_log (slice_get ps f)) files ∙ log_of_none h logs 0 fs f past)
 ]
 
 -- lines that are fair in some logs are so in the same logs
@@ -220,16 +190,27 @@ mapped_more F xs i x at = ap (map F) (take_more xs i x at) ∙ map_last F (take 
 
 -- ---- what is told of guests that are alone, or have no ranges
 
-pub fair_told : (s : Script) (t : Transcript) (files : List (Option Past)) (trees : List (Option (List LogEntry))) → t.files ≡ parts_from (history_in files) (closed_log trees) 0 s.files → HasRun (firsts_of s.files) s.ranges s.background s.guests files trees t.guests → IsFairAlone s t
-fair_told s t files trees parts ran = record {
+pub fair_told : (s : Script) (t : Transcript) (h : ℕ → List Entry) (logs : ℕ → List LogEntry) → t.files ≡ parts_from h logs 0 s.files → HasRun (firsts_of s.files) s.ranges s.background s.guests h logs t.guests → IsFairAlone s t
+fair_told s t h logs parts ran = record {
   each = λ none one g cs part at at'.
-      fair_in s.ranges (closed_log trees) (log_in t) cs part.lines (logs_told t (history_in files) trees s.files parts (ran.trees_long ∙ map_len (λ (l : FileLine). l.first) s.files)) (ran.fair none one g cs part at at');
+      fair_in s.ranges logs (log_in t) cs part.lines (logs_told t h logs s.files parts (λ f far. ran.no_more f (omega (arith, far, map_len (λ (l : FileLine). l.first) s.files)))) (ran.fair none one g cs part at at');
 }
 
-pub done_told : (s : Script) (t : Transcript) (files : List (Option Past)) (trees : List (Option (List LogEntry))) → IsPlayable s → HasRun (firsts_of s.files) s.ranges s.background s.guests files trees t.guests → AreLinesDone s t
-done_told s t files trees h ran = record {
+pub done_told : (s : Script) (t : Transcript) (h : ℕ → List Entry) (logs : ℕ → List LogEntry) → IsPlayable s → HasRun (firsts_of s.files) s.ranges s.background s.guests h logs t.guests → AreLinesDone s t
+done_told s t h logs may ran = record {
   without = ran.done;
   alone = λ no_background one g cs part at at' none.
       let r = ran.runs g cs part at at' in
-      unheld_done g s.ranges (first_in (firsts_of s.files)) (λ f. 0) (history_in files) (closed_log trees) (λ f. []) cs part.lines r.run r.count (ran.fair no_background one g cs part at at') h.ranges.not_one none;
+      unheld_done g s.ranges (first_in (firsts_of s.files)) (λ f. 0) h logs (λ f. []) cs part.lines r.run r.count (ran.fair no_background one g cs part at at') may.ranges.not_one none;
 }
+
+-- ---- what is told of files
+
+lines_told : (es : List Entry) → map line_of (map mark_of es) ≡ map entry_line es
+lines_told [] = refl
+lines_told (e ∷ es) = ap (λ (ls : List EntryLine). entry_line e ∷ ls) (lines_told es)
+
+pub part_told : (h : ℕ → List Entry) (logs : ℕ → List LogEntry) (n : ℕ) (line : FileLine) (one : FileTold) → IsFileTold h logs n one → told_part line one ≡ part_of h logs n line
+part_told h logs n line one is =
+    let entries = ap (map line_of) is.0 ∙ lines_told (h n) in
+    λ i. record { name = line.name; first = line.first; entries = entries i; log = is.1 i }

@@ -4,7 +4,8 @@ use Rattle.std.specs.Prelude.{IfSome}
 use Rattle.std.specs.Io.KnownBytes.{Appends}
 use Rattle.program_io.specs.declared.statuses.Status.{Status}
 use Rattle.program_io.specs.declared.statuses.Status.TheVariants as statuses
-use Rattle.daxrun.specs.Run.{IsAnswerTo, Answers}
+use Rattle.daxrun.specs.declared.runs.Shown.{Shown}
+use Rattle.daxrun.specs.Run.{IsAnswerTo, ShowsBeside, Answers}
 use Rattle.std.proofs.lemmas.List.{length-replicate}
 
 pub each_input : (o : Option (List ℕ)) (P : List ℕ → Type 0) → ((xs : List ℕ) → P xs) → (input : List ℕ) × IfSome o (λ xs. input ≡ xs) × P input
@@ -25,12 +26,12 @@ long_input (Some xs) n P h long = (xs, refl, h xs long)
 -- ---- an answer that was written
 
 -- all of it
-pub answers_all : (input text : List ℕ) (old new : Option (List ℕ)) (before now : ℕ) (status : Status) → IsAnswerTo input status text → Appends old new text → Answers input old new before now status
-answers_all input text old new before now statuses.Ok h all = (text, h, all)
-answers_all input text old new before now statuses.Refused h all = (text, h, all)
-answers_all input text old new before now statuses.Usage h all = absurd h
-answers_all input text old new before now statuses.TooLong h all = absurd h
-answers_all input text old new before now statuses.ReadFault h all = absurd h
-answers_all input text old new before now statuses.WriteFault h all = absurd h
-answers_all input text old new before now statuses.Memory h all = absurd h
-answers_all input text old new before now statuses.NotLegal h all = absurd h
+pub answers_all : (input text : List ℕ) (old new : Option (List ℕ)) (before now : ℕ) (shown : Shown) (status : Status) → IsAnswerTo input status text → ShowsBeside input status text shown → Appends old new text → Answers input old new before now shown status
+answers_all input text old new before now shown statuses.Ok h beside all = (text, h, all, beside)
+answers_all input text old new before now shown statuses.Refused h beside all = (text, h, all, beside)
+answers_all input text old new before now shown statuses.Usage h beside all = absurd h
+answers_all input text old new before now shown statuses.TooLong h beside all = absurd h
+answers_all input text old new before now shown statuses.ReadFault h beside all = absurd h
+answers_all input text old new before now shown statuses.WriteFault h beside all = absurd h
+answers_all input text old new before now shown statuses.Memory h beside all = absurd h
+answers_all input text old new before now shown statuses.NotLegal h beside all = absurd h

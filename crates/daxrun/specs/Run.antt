@@ -20,6 +20,8 @@ use Rattle.dax_audit.specs.Tables.{log_in}
 use Rattle.transcript_text.specs.TranscriptText.{text_of}
 use Rattle.transcript_text.specs.TranscriptReading.{transcript_of}
 use Rattle.guest_run.specs.Working.{AllDone, IsFair}
+use Rattle.daxrun.specs.declared.runs.Shown.{Shown}
+use Rattle.daxrun.specs.declared.runs.Shown.TheVariants as shows
 
 -- the most bytes that are read
 abbrev pub limit : ℕ
@@ -59,9 +61,8 @@ pub record AreLinesDone (script : Script) (t : Transcript) : Type 0 where
   pub without : script.ranges ≡ 0 → (g : ℕ) (cs : List Call) (part : GuestPart) → slice_get script.guests g ≡ Some cs → slice_get t.guests g ≡ Some part → AllDone part.lines
   pub alone : script.background ≡ 0 → length script.guests ≡ 1 → (g : ℕ) (cs : List Call) (part : GuestPart) → slice_get script.guests g ≡ Some cs → slice_get t.guests g ≡ Some part → hold_places 0 cs ≡ [] → AllDone part.lines
 
--- The text is that of a transcript which is legal for the script, and it is read as this transcript. A call of a guest that is alone is done unless its own holds stand against it.
-pub record IsTextOf (script : Script) (text : List ℕ) : Type 0 where
-  pub transcript : Transcript
+-- The text is that of this transcript, which is legal for the script, and it is read as this transcript. A call of a guest that is alone is done unless its own holds stand against it.
+pub record IsTextOf (script : Script) (transcript : Transcript) (text : List ℕ) : Type 0 where
   pub legal : IsLegal script transcript
   pub fair : IsFairAlone script transcript
   pub done : AreLinesDone script transcript
@@ -71,8 +72,14 @@ pub record IsTextOf (script : Script) (text : List ℕ) : Type 0 where
 -- the input is a script, and the text is one of its transcripts
 pub record Transcribes (input text : List ℕ) : Type 0 where
   pub script : Script
+  pub transcript : Transcript
   pub reads : script_of input ≡ Ok script
-  pub told : IsTextOf script text
+  pub told : IsTextOf script transcript text
+
+-- what is shown is that the input's script was played, and the text is that of its run's transcript
+abbrev pub Shows : List ℕ → List ℕ → Shown → Type 0
+Shows input text shows.Nothing = ⊥
+Shows input text (shows.Script p) = (script_of input ≡ Ok p.script) × IsTextOf p.script p.transcript text
 
 -- the text of an input that was read whole
 abbrev pub IsAnswerTo : List ℕ → Status → List ℕ → Type 0
@@ -84,6 +91,17 @@ IsAnswerTo input statuses.ReadFault text = ⊥
 IsAnswerTo input statuses.WriteFault text = ⊥
 IsAnswerTo input statuses.Memory text = ⊥
 IsAnswerTo input statuses.NotLegal text = ⊥
+
+-- what is shown beside such a text: a play beside a transcript, else nothing
+abbrev pub ShowsBeside : List ℕ → Status → List ℕ → Shown → Type 0
+ShowsBeside input statuses.Ok text shown = Shows input text shown
+ShowsBeside input statuses.Refused text shown = shown ≡ shows.Nothing
+ShowsBeside input statuses.Usage text shown = ⊥
+ShowsBeside input statuses.TooLong text shown = ⊥
+ShowsBeside input statuses.ReadFault text shown = ⊥
+ShowsBeside input statuses.WriteFault text shown = ⊥
+ShowsBeside input statuses.Memory text shown = ⊥
+ShowsBeside input statuses.NotLegal text shown = ⊥
 
 -- the text that is due with a status, for these words and this whole input
 abbrev pub IsDue : List (List ℕ) → List ℕ → Status → List ℕ → Type 0
@@ -102,13 +120,13 @@ due_status words input =
     if is_script_command words then (if nat_lt limit (length input) then statuses.TooLong else if is_none (refusal (script_of input)) then statuses.Ok else statuses.Refused)
     else statuses.Usage
 
--- what a sink has after the answer to such an input, by the status: all of the text, a part of it, or nothing
-abbrev pub Answers : List ℕ → Option (List ℕ) → Option (List ℕ) → ℕ → ℕ → Status → Type 0
-Answers input old new before now statuses.Ok = (text : List ℕ) × Transcribes input text × Appends old new text
-Answers input old new before now statuses.Refused = (text : List ℕ) × (refusal (script_of input) ≡ Some text) × Appends old new text
-Answers input old new before now statuses.WriteFault = Rose before now × ((status : Status) × (text : List ℕ) × IsAnswerTo input status text × AppendsPart old new text)
-Answers input old new before now statuses.Memory = Keeps old new
-Answers input old new before now statuses.Usage = ⊥
-Answers input old new before now statuses.ReadFault = ⊥
-Answers input old new before now statuses.TooLong = ⊥
-Answers input old new before now statuses.NotLegal = ⊥
+-- what a sink has after the answer to such an input, by the status: all of the text, a part of it, or nothing; and what is shown then
+abbrev pub Answers : List ℕ → Option (List ℕ) → Option (List ℕ) → ℕ → ℕ → Shown → Status → Type 0
+Answers input old new before now shown statuses.Ok = (text : List ℕ) × Transcribes input text × Appends old new text × Shows input text shown
+Answers input old new before now shown statuses.Refused = (text : List ℕ) × (refusal (script_of input) ≡ Some text) × Appends old new text × (shown ≡ shows.Nothing)
+Answers input old new before now shown statuses.WriteFault = Rose before now × ((status : Status) × (text : List ℕ) × IsAnswerTo input status text × AppendsPart old new text) × (shown ≡ shows.Nothing)
+Answers input old new before now shown statuses.Memory = Keeps old new × (shown ≡ shows.Nothing)
+Answers input old new before now shown statuses.Usage = ⊥
+Answers input old new before now shown statuses.ReadFault = ⊥
+Answers input old new before now shown statuses.TooLong = ⊥
+Answers input old new before now shown statuses.NotLegal = ⊥

@@ -1,15 +1,11 @@
 -- A session: its files are found and opened, one after another.
 use Rattle.std.specs.Prelude.{◌≡◌, ℕ, ◌+◌, ◌*◌, ◌≤◌, true, false, List, length, map, replicate, slice_get, Option, Some, None}
-use mathlib.Core.Option.{some}
-use lib.ListN.{get_elem?}
 use Rattle.plain_file.specs.File.{max_file}
 use Rattle.plain_file.specs.declared.operations.First.{First}
 use Rattle.plain_file.specs.Board.{BoardView, file_at, size_of}
-use Rattle.plain_file.specs.History.{Past}
 use Rattle.plain_file.specs.Limits.{max_files}
 use Rattle.plain_file.specs.Plain.{new_board}
 use Rattle.page_map.specs.Plain.{new_map, range_pages}
-use Rattle.page_map.specs.declared.ranges.LogEntry.{LogEntry}
 use Rattle.fuse_device.specs.State.{State, named, is_made}
 use Rattle.fuse_device.specs.Checks.{may_open}
 use Rattle.fuse_device.specs.OpenFiles.{HasOpenFile}
@@ -66,7 +62,3 @@ opening_boards ranges = boards (new_board 0 empty_firsts) (new_map (range_pages 
 -- a script's files are open at a daemon in this state, under these handles
 abbrev pub IsOpenAt : List FileLine → ℕ → List FileRef → State → Type 0
 IsOpenAt fs ranges ats s = IsOpened (names_of fs) ats (whole_wire s) (opening_boards ranges)
-
--- the file has contents and a placement log in tables that were closed
-abbrev pub IsThereIn : List (Option Past) → List (Option (List LogEntry)) → ℕ → Type 0
-IsThereIn files trees f = ((p : Past) × (get_elem? files f ≡ some (Some p))) × ((log : List LogEntry) × (get_elem? trees f ≡ some (Some log)))

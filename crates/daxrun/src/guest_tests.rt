@@ -3,6 +3,7 @@ use dax_audit::Verdict;
 use guest_run::OpenGate;
 use program_io::Status;
 use std::alloc::{AllocError, Global};
+use std::process::Abort;
 use std::sync::Wait;
 use std::test::Fail;
 use std::thread::Threads;
@@ -50,7 +51,7 @@ fn market(text: &mut String, ranges: u32, guests: u32, rounds: u32) -> Result<()
 }
 
 // A script runs so often, and the audit finds no fault in any of its transcripts.
-fn runs_well<R: Threads + Wait + Sync>(
+fn runs_well<R: Threads + Wait + Sync + Abort>(
     rt: &R,
     alloc: Global,
     script: &str,

@@ -3,6 +3,7 @@ use dax_audit::Verdict;
 use guest_run::OpenGate;
 use program_io::Status;
 use std::alloc::Global;
+use std::process::Abort;
 use std::sync::Wait;
 use std::test::Fail;
 use std::thread::Threads;
@@ -28,7 +29,7 @@ const PAST_TOLD: &str =
     "transcript 1\nranges 2\nfile a 5 00\nentry 0 1 via 0 1\nlog place 0 in 0 w\nguest 0\n0 held 5 via 0 1\n1 done 0 wrote 2\n2 past 5\n3 released\n4 nohold\nend\n";
 
 // A script runs, its transcript is this one, and the audit finds no fault.
-fn runs<R: Threads + Wait + Sync>(
+fn runs<R: Threads + Wait + Sync + Abort>(
     rt: &R,
     alloc: Global,
     script: &str,

@@ -1,14 +1,15 @@
-use crate::runs::run;
+use crate::runs::{Shown, run};
 use dax_audit::{Verdict, audit};
 use dax_script::parse as parse_script;
 use guest_run::{Gate, OpenGate};
 use plain_file::{Blob, List, Memory};
 use program_io::{MemSink, MemSource, Status, SureSink, SureSource, Word};
 use std::alloc::{AllocError, Global};
+use std::process::Abort;
 use std::sync::Wait;
 use std::test::Fail;
 use std::thread::Threads;
-use transcript_text::parse as parse_transcript;
+use transcript_text::{parse as parse_transcript, print};
 
 // One guest that writes a file and reads it.
 pub const HELLO: &str = "ranges 0\nfile a 0\nguest\nwrite a 0 68656c6c6f\nread a 0 9\n";
@@ -53,8 +54,21 @@ fn words_of(alloc: Global, words: &[&[u8]]) -> Result<List<Word>, Memory> {
     Ok(list)
 }
 
+// Whether what is shown is what was taken: with the status Ok a script and a transcript with that text, else nothing.
+fn is_shown(alloc: Global, shown: &Shown, status: Status, taken: &[u8]) -> Result<bool, Memory> {
+    match shown {
+        Shown::Nothing => Ok(status != Status::Ok),
+        Shown::Script(played) => {
+            let text = print(alloc, played.transcript())?;
+            let told = text.as_slice() == taken;
+            let guests = played.script().guests.len();
+            Ok(status == Status::Ok && told && guests == played.transcript().guests.len())
+        }
+    }
+}
+
 // The status of a run with these words over bytes in memory, and what was taken.
-fn ran<R: Threads + Wait + Sync, G: Gate + Sync>(
+fn ran<R: Threads + Wait + Sync + Abort, G: Gate + Sync>(
     rt: &R,
     alloc: Global,
     words: &[&[u8]],
@@ -68,12 +82,16 @@ fn ran<R: Threads + Wait + Sync, G: Gate + Sync>(
     let mut source = MemSource::new(input, piece, List::from_vec(vec![in alloc; fails; 1]?));
     let Ends(piece, fails) = to;
     let mut sink = MemSink::new(alloc, piece, List::from_vec(vec![in alloc; fails; 1]?));
-    let status = run(rt, alloc, words.as_slice(), &mut source, &mut sink, gate);
-    Ok((status, sink.bytes().clone()?))
+    let mut shown = Shown::Nothing;
+    let words = words.as_slice();
+    let status = run(rt, alloc, words, &mut source, &mut sink, gate, &mut shown);
+    let taken = sink.bytes().clone()?;
+    assert!(rt; is_shown(alloc, &shown, status, taken.as_slice())?);
+    Ok((status, taken))
 }
 
 /// The status of `script` over a text, its guests' calls through this gate, and what was written.
-pub fn answer_to<R: Threads + Wait + Sync, G: Gate + Sync>(
+pub fn answer_to<R: Threads + Wait + Sync + Abort, G: Gate + Sync>(
     rt: &R,
     alloc: Global,
     text: &[u8],
@@ -450,6 +468,7 @@ fn nothing_fails_over_sure_ends(rt: HostRuntime) -> Result<(), Fail> {
         &mut source,
         &mut SureSink::new(),
         &OpenGate,
+        &mut Shown::Nothing,
     );
     assert_eq!(rt; status, Status::Ok);
     Ok(())

@@ -1,39 +1,39 @@
-use Rattle.std.proofs.Common.{◌≡◌, ◌∙◌, ap, sym, subst, ℕ, ◌+◌, ◌<◌, ◌++◌, List, [], ◌∷◌, length, take, arith}
+use Rattle.std.proofs.Common.{◌≡◌, ◌∙◌, ap, sym, subst, ℕ, ◌+◌, ◌<◌, ◌++◌, List, [], ◌∷◌, length, take, slice_get, Some, arith, length-append}
 use Rattle.std.specs.List.{AllByRecursion}
+use Rattle.std.proofs.lemmas.Iterator.Consumers.{YieldsList-turn}
+use Rattle.std.proofs.lemmas.Iterator.Adapters.{YieldsList-from_vec}
+use Rattle.plain_file.specs.declared.operations.Entry.{Entry}
+use Rattle.page_map.specs.declared.ranges.LogEntry.{LogEntry}
 use Rattle.transcript_text.specs.declared.transcripts.FilePart.{FilePart}
 use Rattle.transcript_text.specs.TranscriptReading.{IsPrintableFile}
-use Rattle.guest_run.specs.Runs.{file_part, parts_from}
+use Rattle.guest_run.specs.Runs.{part_of, parts_from}
 use Rattle.guest_run.proofs.Places.{at_index, take_more, take_count, all_push}
-use Rattle.guest_threads.specs.Ran.{history_in, log_in}
-use Rattle.daxrun.proofs.Playing.{parts_more, history_there, log_there}
+use Rattle.guest_threads.specs.declared.tellings.FileTold.{FileTold}
+use Rattle.daxrun.proofs.Playing.{parts_more, part_told}
 use Rattle.daxrun.proofs.plays.file_parts.Goals as goal
 
-pub body-requires : goal.body-requires
-body-requires c =
-    let lt : c.loop-line.number < length c.args.lines.now = (let n = c.loop-line.invariant.number in omega arith) in
-    record { there = (c.requires.there c.loop-line.number lt).0 }
-
-pub tree-requires : goal.tree-requires
-tree-requires c =
-    let lt : c.loop-line.number < length c.args.lines.now = (let n = c.loop-line.invariant.number in omega arith) in
-    record { there = (c.requires.there c.loop-line.number lt).1 }
-
-pub loop-line-preserved : goal.loop-line-preserved
-loop-line-preserved c =
-    let i = c.loop-line.line-index in
-    let all = c.args.lines.now in
-    let h = history_in c.args.files.now in
-    let logs = log_in c.args.trees.now in
-    let inv = c.loop-line.invariant in
-    let f = c.line-item.result in
-    let lt : i < length all = omega arith in
-    let at = at_index all i f lt c.line-item.is in
-    let number : c.loop-line.number ≡ 0 + length (take i all) = (let n = inv.number in let k = take_count all i f at in omega arith) in
-    let past = c.as_slice-history.ensures ∙ c.history.ensures ∙ sym (history_there c.args.files.now c.loop-line.number _ c.body.ensures) ∙ ap h number in
-    let log = c.log-log.ensures.log ∙ sym (log_there c.args.trees.now c.loop-line.number _ c.tree.ensures) ∙ ap logs number in
-    let is : c.in_ok-part.part ≡ file_part (h (0 + length (take i all))) (logs (0 + length (take i all))) f = c.in_ok-part.ensures.value ∙ (λ j. file_part (past j) (log j) f) in
+pub loop-one-preserved : goal.loop-one-preserved
+loop-one-preserved c =
+    let b = c.into_iter-one-iterator.ensures.into_iter_gives in
+    let vec = c.into_vec-one-items.result in
+    let items = vec.items in
+    let from = YieldsList-from_vec {s = c.into_iter-one-iterator.result} items b.0 (b.1 ∙ vec.ok.0) in
+    let t = YieldsList-turn from c.loop-one.yielded c.loop-one.one-iterator c.loop-one.yielded_by c.next.result c.next.new.self c.in-Some.one c.in-Some.is c.next.ensures.steps in
+    let one = c.in-Some.one in
+    let k = length c.loop-one.yielded in
+    let inv = c.loop-one.invariant in
+    let lines = c.args.lines.now in
+    let same : items ≡ c.args.told = c.into_vec-one-items.ensures in
+    let at : slice_get c.args.told k ≡ Some one = ap (λ (l : List FileTold). slice_get l k) (sym same) ∙ at_index items k one t.0 t.1 in
+    let f = c.index-lines-number.result in
+    let lt : c.loop-one.number < length lines = (let n = inv.number in let near = t.0 in let many = c.requires.many in let len = ap (λ (l : List FileTold). length l) same in omega (arith, n, near, many, len)) in
+    let line : slice_get lines k ≡ Some f = ap (λ (n : ℕ). slice_get lines n) (sym inv.number) ∙ at_index lines c.loop-one.number f lt c.index-lines-number.is in
+    let counted : k ≡ 0 + length (take k lines) = (let z = take_count lines k f line in omega (arith, z)) in
+    let longer : length (c.loop-one.yielded ++ one ∷ []) ≡ k + 1 = omega (arith, length-append c.loop-one.yielded (one ∷ [])) in
     record {
-      number = ap (λ (n : ℕ). n + 1) inv.number;
-      parts = c.in_ok-push.ensures.ok ∙ (λ j. inv.parts j ++ is j ∷ []) ∙ sym (ap (parts_from h logs 0) (take_more all i f at) ∙ parts_more h logs 0 (take i all) f);
-      printable = subst (λ (xs : List FilePart). AllByRecursion IsPrintableFile xs) (sym c.in_ok-push.ensures.ok) (all_push IsPrintableFile c.loop-line.parts c.in_ok-part.part inv.printable c.in_ok-part.ensures.printable);
+      number = (let n = inv.number in omega (arith, n, longer));
+      parts = λ h logs told.
+          let is : c.in_ok-part.part ≡ part_of h logs (0 + length (take k lines)) f = c.in_ok-part.ensures.value ∙ (part_told h logs k f one (told.1 k one at) ∙ ap (λ (n : ℕ). part_of h logs n f) counted) in
+          c.in_ok-push.ensures.ok ∙ ((λ j. inv.parts h logs told j ++ is j ∷ []) ∙ (sym (ap (parts_from h logs 0) (take_more lines k f line) ∙ parts_more h logs 0 (take k lines) f) ∙ ap (λ (n : ℕ). parts_from h logs 0 (take n lines)) (sym longer)));
+      printable = subst (λ (xs : List FilePart). AllByRecursion IsPrintableFile xs) (sym c.in_ok-push.ensures.ok) (all_push IsPrintableFile c.loop-one.parts c.in_ok-part.part inv.printable c.in_ok-part.ensures.printable);
     }

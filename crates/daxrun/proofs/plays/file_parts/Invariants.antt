@@ -1,13 +1,15 @@
-use Rattle.std.proofs.Common.{◌≡◌, take}
+use Rattle.std.proofs.Common.{◌≡◌, ℕ, List, length, take}
 use Rattle.std.specs.List.{AllByRecursion}
+use Rattle.plain_file.specs.declared.operations.Entry.{Entry}
+use Rattle.page_map.specs.declared.ranges.LogEntry.{LogEntry}
 use Rattle.transcript_text.specs.TranscriptReading.{IsPrintableFile}
 use Rattle.guest_run.specs.Runs.{parts_from}
-use Rattle.guest_threads.specs.Ran.{history_in, log_in}
+use Rattle.guest_threads.specs.Ran.{AreFilesTold}
 use Rattle.daxrun.proofs.plays.file_parts.Given as goal
 
-abbrev pub invariant-loop-line : goal.invariant-loop-line
-invariant-loop-line l = record {
-  number : l.number ≡ l.line-index;
-  parts : l.parts ≡ parts_from (history_in l.files) (log_in l.trees) 0 (take l.line-index l.lines);
+abbrev pub invariant-loop-one : goal.invariant-loop-one
+invariant-loop-one l = record {
+  number : l.number ≡ length l.yielded;
+  parts : (h : ℕ → List Entry) (logs : ℕ → List LogEntry) → AreFilesTold h logs (length l.lines) l.fn.told → l.parts ≡ parts_from h logs 0 (take (length l.yielded) l.lines);
   printable : AllByRecursion IsPrintableFile l.parts;
 }
