@@ -1,52 +1,26 @@
 -- A guest over boards of its own, as a test has it.
-use Rattle.std.proofs.Common.{◌≡◌, ◌∙◌, inl, inr, ap, sym, subst, refl, ℕ, zero, suc, ◌+◌, ◌*◌, ◌<◌, ◌≤◌, ◌&&◌, Bool, true, false, true≢false, List, [], ◌∷◌, ◌++◌, length, map, take, replicate, get_or, slice_get, slice_index_or, Option, Some, None, arith}
-use Rattle.std.specs.Prelude.{All, sum}
-use Rattle.std.proofs.lemmas.Bool.{cases_lt}
-use Rattle.std.proofs.lemmas.Option.{slice_get-get_or}
+use Rattle.std.proofs.Common.{◌≡◌, ◌∙◌, ap, sym, subst, refl, ℕ, zero, suc, ◌*◌, ◌<◌, true, true≢false, List, [], ◌∷◌, length, map, replicate, slice_index_or, Option, Some, None, arith}
+use Rattle.std.specs.Prelude.{sum}
 use Rattle.std.proofs.lemmas.List.{length-replicate}
-use Rattle.plain_file.specs.declared.operations.Entry.{Entry}
 use Rattle.plain_file.specs.declared.operations.First.{First}
-use Rattle.plain_file.specs.declared.operations.Op.{Op}
-use Rattle.plain_file.specs.Limits.{max_files}
-use Rattle.plain_file.specs.Plain.{new_board, new_file, IsAllOf}
-use Rattle.plain_file.specs.Board.{FileView, BoardView, no_file}
+use Rattle.plain_file.specs.Plain.{new_board, new_file}
+use Rattle.plain_file.specs.Board.{BoardView, no_file}
 use Rattle.page_map.specs.declared.pages.Page.{Page}
-use Rattle.page_map.specs.declared.ranges.LogEntry.{LogEntry}
-use Rattle.page_map.specs.Board.{MapView, log_at}
-use Rattle.page_map.specs.Plain.{new_map, range_pages}
-use Rattle.page_map.specs.Logs.{Slot, sound, sound_from, may_follow, next_slots}
+use Rattle.page_map.specs.Board.{MapView}
+use Rattle.page_map.specs.Plain.{range_pages}
 use Rattle.range_tree.specs.Plain.{new_ranges}
-use Rattle.range_tree.specs.Logs.{first_unsound, unsound_at}
-use Rattle.fuse_device.specs.State.{State, new_state}
 use Rattle.fuse_device.specs.OpenFiles.{HasOpenFile}
-use Rattle.fuse_device.specs.Promises.{IsServable, world}
-use Rattle.fuse_device.proofs.Servable.{servable_at_start}
-use Rattle.guest_wire.specs.Wires.{WireView, KeepsWire, boards}
+use Rattle.guest_wire.specs.Wires.{WireView, boards}
 use Rattle.guest_wire.specs.declared.driver.FileRef.{FileRef}
 use Rattle.guest_dax.specs.Stands.{stand, ref_at}
-use Rattle.guest_io.specs.Requests.{IsHome}
 use Rattle.guest_io.specs.declared.guest.Granted.{Granted}
 use Rattle.guest_io.specs.Holds.{HasHolds, no_holds, max_holds, count_of, leases_of, pins_of}
-use Rattle.plain_text.specs.Options.{◌>>=◌}
-use Rattle.dax_script.specs.Asks.{held_of, held_by, place_of_hold}
-use Rattle.dax_script.specs.declared.asks.Held.{Held as Wanted}
-use Rattle.dax_script.specs.declared.scripts.Call.{Call}
-use Rattle.dax_script.specs.declared.scripts.Call.TheVariants as calls
 use Rattle.dax_script.specs.declared.scripts.FileLine.{FileLine}
-use Rattle.dax_script.specs.declared.scripts.Script.{Script}
-use Rattle.transcript_text.specs.declared.transcripts.FilePart.{FilePart}
-use Rattle.transcript_text.specs.declared.transcripts.GuestPart.{GuestPart}
-use Rattle.transcript_text.specs.declared.transcripts.Numbered.{Numbered}
-use Rattle.transcript_text.specs.declared.transcripts.Transcript.{Transcript}
-use Rattle.dax_audit.specs.Legal.{IsLegal}
-use Rattle.dax_audit.specs.Tables.{no_log, log_in}
-use Rattle.guest_run.specs.Runs.{Asked, asked, through_hold, part_of, parts_from, IsRunFrom, IsPart}
-use Rattle.guest_run.specs.Working.{IsIdle, IsCall, AreCalls, IsFair, first_at, history_at}
-use Rattle.guest_run.proofs.Places.{none_is, some_is, within, bound, map_len, take_more}
+use Rattle.guest_run.specs.Working.{IsIdle}
+use Rattle.guest_run.proofs.Places.{none_is, map_len}
 use Rattle.daxrun.proofs.Playing.{ref_is}
 use Rattle.daxrun.specs.Carried.{names_of, AreRanges}
-use Rattle.daxrun.specs.Requests.{IsLive}
-use Rattle.daxrun.specs.Session.{IsOpened, empty_firsts, firsts_of}
+use Rattle.daxrun.specs.Session.{IsOpened, firsts_of}
 
 -- ---- a guest that did nothing
 

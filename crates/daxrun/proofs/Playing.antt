@@ -23,7 +23,7 @@ use Rattle.fuse_device.proofs.Servable.{servable_at_start}
 use Rattle.guest_wire.specs.declared.driver.FileRef.{FileRef}
 use Rattle.guest_dax.specs.Stands.{ref_at}
 use Rattle.plain_text.specs.Options.{◌>>=◌}
-use Rattle.dax_script.specs.Asks.{hold_places, held_of, held_by, place_of_hold}
+use Rattle.dax_script.specs.Asks.{held_of, held_by, place_of_hold}
 use Rattle.dax_script.specs.declared.asks.Held.{Held as Wanted}
 use Rattle.dax_script.specs.declared.scripts.Call.{Call}
 use Rattle.dax_script.specs.declared.scripts.Call.TheVariants as calls
@@ -31,7 +31,6 @@ use Rattle.dax_script.specs.declared.scripts.FileLine.{FileLine}
 use Rattle.dax_script.specs.declared.scripts.Script.{Script}
 use Rattle.transcript_text.specs.declared.transcripts.EntryLine.{EntryLine}
 use Rattle.transcript_text.specs.declared.transcripts.FilePart.{FilePart}
-use Rattle.transcript_text.specs.declared.transcripts.GuestPart.{GuestPart}
 use Rattle.transcript_text.specs.declared.transcripts.Numbered.{Numbered}
 use Rattle.transcript_text.specs.declared.transcripts.Transcript.{Transcript}
 use Rattle.dax_audit.specs.Legal.{IsLegal}

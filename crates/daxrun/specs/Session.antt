@@ -1,5 +1,5 @@
 -- A session: its files are found and opened, one after another.
-use Rattle.std.specs.Prelude.{◌≡◌, ℕ, ◌+◌, ◌*◌, ◌≤◌, true, false, List, length, map, replicate, slice_get, Option, Some, None}
+use Rattle.std.specs.Prelude.{◌≡◌, ℕ, ◌+◌, ◌*◌, ◌≤◌, true, false, List, length, map, replicate, slice_get, Some, None}
 use Rattle.plain_file.specs.File.{max_file}
 use Rattle.plain_file.specs.declared.operations.First.{First}
 use Rattle.plain_file.specs.Board.{BoardView, file_at, size_of}

@@ -42,22 +42,19 @@ impl Gate for Meeting {
         } else {
             Point::After
         };
-        let met = !self.meet || point == Point::After || comes(other);
+        // Before a call it waits for the other guest to pass a point, until patience ends.
+        let mut met = !self.meet || point == Point::After;
+        for _turn in 0..100_000_000 {
+            if met {
+                break;
+            }
+            spin_loop();
+            met = other.load(SeqCst) != 0;
+        }
         if !met || (call, point) != (passed / 2, due) {
             self.faults.fetch_add(1, SeqCst);
         }
     }
-}
-
-// Whether a guest passes a point before patience ends.
-fn comes(points: &AtomicU32) -> bool {
-    for _turn in 0..100_000_000 {
-        if points.load(SeqCst) != 0 {
-            return true;
-        }
-        spin_loop();
-    }
-    false
 }
 
 // Guests that ran one after another would wait in vain.

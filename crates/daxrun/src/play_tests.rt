@@ -37,19 +37,6 @@ fn script_in(alloc: Global, text: &[u8]) -> Option<Script>
 }
 
 // The requests that open and close the session of a script have these opcodes.
-fn session<R: Wait + Abort>(
-    rt: &R,
-    alloc: Global,
-    script: &Script,
-    opcodes: &[u32],
-) -> Result<(), Memory>
-    requires { IsPlayable script.now }
-{
-    let solo = SoloWire::new(alloc, daemon_of(alloc, script)?)?;
-    let client = Driver::new(KeepWire::new(alloc, solo));
-    session_by(rt, alloc, script, client, opcodes)
-}
-
 fn session_by<R: Wait + Abort, W>(
     rt: &R,
     alloc: Global,
@@ -74,21 +61,6 @@ where
 }
 
 // The requests of the calls of a script's first guest, over boards of its own, have these opcodes.
-fn calls<R: Wait + Abort>(
-    rt: &R,
-    alloc: Global,
-    script: &Script,
-    opcodes: &[u32],
-) -> Result<(), Memory>
-    requires { IsPlayable script.now }
-{
-    let daemon = daemon_of(alloc, script)?;
-    let lines = script.files.as_slice();
-    let (daemon, opened) = open_session(rt, alloc, lines, script.ranges, daemon)?;
-    let wire = KeepWire::new(alloc, SoloWire::new(alloc, daemon)?);
-    calls_by(rt, alloc, script, Driver::new(wire), opened, opcodes)
-}
-
 fn calls_by<R: Wait + Abort, W>(
     rt: &R,
     alloc: Global,
@@ -165,7 +137,10 @@ fn opens_and_closes(rt: HostRuntime) -> Result<(), Fail> {
     let Some(script) = script_in(alloc, FOUR.as_bytes()) else {
         panic!(&rt; "no script")
     };
-    session(&rt, alloc, &script, &[26, 1, 14, 1, 14, 18, 18, 38])?;
+    let solo = SoloWire::new(alloc, daemon_of(alloc, &script)?)?;
+    let client = Driver::new(KeepWire::new(alloc, solo));
+    let opcodes = [26, 1, 14, 1, 14, 18, 18, 38];
+    session_by(&rt, alloc, &script, client, &opcodes)?;
     Ok(())
 }
 
@@ -186,7 +161,11 @@ fn sends_what_calls_need(rt: HostRuntime) -> Result<(), Fail> {
         let Some(script) = script_in(alloc, text.as_bytes()) else {
             panic!(&rt; "no script")
         };
-        calls(&rt, alloc, &script, opcodes)?;
+        let daemon = daemon_of(alloc, &script)?;
+        let lines = script.files.as_slice();
+        let (daemon, opened) = open_session(&rt, alloc, lines, script.ranges, daemon)?;
+        let wire = KeepWire::new(alloc, SoloWire::new(alloc, daemon)?);
+        calls_by(&rt, alloc, &script, Driver::new(wire), opened, opcodes)?;
     }
     Ok(())
 }

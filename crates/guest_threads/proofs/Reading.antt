@@ -1,5 +1,5 @@
 -- The first passes read again when all others are in: what they keep, and what is told of the files.
-use Rattle.std.proofs.Common.{◌≡◌, ◌≢◌, ◌∙◌, ⊎_elim, ap, sym, subst, refl, ℕ, ◌+◌, ◌<◌, ◌≤◌, List, [], ◌∷◌, ◌++◌, length, take, slice_get, Some, arith, append-nil, length-append, lt_of_not-le}
+use Rattle.std.proofs.Common.{◌≡◌, ◌≢◌, ◌∙◌, ⊎_elim, ap, sym, subst, refl, ℕ, ◌+◌, ◌<◌, List, [], ◌∷◌, ◌++◌, length, take, slice_get, Some, arith, append-nil, length-append, lt_of_not-le}
 use Rattle.std.specs.Prelude.{IsTrue}
 use mathlib.Core.Logic.{dite}
 use native.Mathlib.Decide.{ℕ_discrete, dec_le}
@@ -10,19 +10,19 @@ use Rattle.plain_file.specs.declared.operations.First.{First}
 use Rattle.page_map.specs.declared.ranges.LogEntry.{LogEntry}
 use Rattle.page_map.specs.Logs.{sound}
 use Rattle.files_core.specs.Good.{Within}
-use Rattle.file_share.specs.Table.{Marks, part, first_in}
+use Rattle.file_share.specs.Table.{Marks, first_in}
 use Rattle.file_share.specs.Steps.{Accounted}
 use Rattle.file_share.specs.Known.{Known as FilesKnown, IsReread as FilesReread}
 use Rattle.window_core.specs.Laws.{Begins}
 use Rattle.range_share.specs.Table.{moves_in}
-use Rattle.range_share.specs.Steps.{branch_of, ranges_of}
+use Rattle.range_share.specs.Steps.{branch_of}
 use Rattle.range_share.specs.Known.{Known as RangesKnown, IsReread as RangesReread}
 use Rattle.dax_script.specs.declared.scripts.Call.{Call}
 use Rattle.transcript_text.specs.declared.transcripts.GuestPart.{GuestPart}
 use Rattle.guest_run.proofs.Places.{at_end, in_take, within}
 use Rattle.guest_threads.specs.declared.jobs.Job.{Job}
 use Rattle.guest_threads.specs.declared.tellings.FileTold.{FileTold}
-use Rattle.guest_threads.specs.Jobs.{Team, AreFirst, AreLater, AreBack, HasLeft, IsReturned, Returned, IsTallied, HasSwept, AreTallied, AreReread, IsRead, AreRead, history_seen, log_seen}
+use Rattle.guest_threads.specs.Jobs.{Team, AreFirst, AreBack, HasLeft, Returned, AreTallied, AreReread, IsRead, AreRead, history_seen, log_seen}
 use Rattle.guest_threads.specs.Ran.{IsFileTold, AreFilesTold}
 use Rattle.guest_threads.proofs.Joining.{later_same, later_on, left_on}
 

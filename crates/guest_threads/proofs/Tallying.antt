@@ -1,5 +1,5 @@
 -- What the boards of a team's members counted, as the first passes keep it.
-use Rattle.std.proofs.Common.{◌≡◌, ◌≢◌, ◌∙◌, ap, sym, subst, refl, ℕ, ◌+◌, ◌-◌, ◌^◌, ◌<◌, ◌≤◌, List, [], ◌∷◌, length, slice_get, Option, Some, Result, Ok, Err, arith}
+use Rattle.std.proofs.Common.{◌≡◌, ◌∙◌, ap, sym, subst, ℕ, ◌+◌, ◌-◌, ◌^◌, ◌<◌, ◌≤◌, List, length, slice_get, Some, Result, Ok, Err, arith}
 use Rattle.std.specs.Prelude.{min, IfOk}
 use Rattle.std.specs.Result.{result_ok}
 use Rattle.std.proofs.lemmas.Option.{none-some, same_Some}
@@ -17,7 +17,7 @@ use Rattle.guest_dax.specs.Stands.{Stand}
 use Rattle.guest_run.specs.Working.{HasCounted}
 use Rattle.guest_run.proofs.Places.{within, found}
 use Rattle.guest_threads.specs.declared.jobs.Job.{Job}
-use Rattle.guest_threads.specs.Jobs.{Team, IsTeam, IsOut, HaveRun, HasTallied, HaveTallied, HasJoined, AreTold, AreSeated, AreTallied, HasSwept, team_of, stand_of, firsts_of, count_of, leasers_for}
+use Rattle.guest_threads.specs.Jobs.{Team, IsTeam, IsOut, HaveRun, HasTallied, HaveTallied, HasJoined, AreTold, AreSeated, AreTallied, team_of, stand_of, firsts_of, count_of, leasers_for}
 use Rattle.guest_threads.proofs.Fresh.{stand_is, fresh_refusals}
 use Rattle.guest_threads.proofs.Split.{files_many}
 use Rattle.guest_threads.proofs.Returning.{its_table}

@@ -1,4 +1,4 @@
-use Rattle.std.proofs.Common.{◌≡◌, ◌∙◌, sym, subst, ◌<◌, ◌++◌, List, [], ◌∷◌, length, arith}
+use Rattle.std.proofs.Common.{◌∙◌, sym, subst, ◌<◌, ◌++◌, List, [], ◌∷◌, length, arith}
 use Rattle.std.specs.List.{AllByRecursion}
 use Rattle.std.proofs.lemmas.Option.{slice_get-get_or}
 use Rattle.transcript_text.specs.declared.transcripts.EntryLine.{EntryLine}

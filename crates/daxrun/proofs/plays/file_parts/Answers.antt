@@ -2,8 +2,6 @@ use Rattle.std.proofs.Common.{◌≡◌, ◌∙◌, ap, sym, subst, ℕ, ◌+◌
 use Rattle.std.specs.List.{AllByRecursion}
 use Rattle.std.proofs.lemmas.Iterator.Consumers.{YieldsList-turn}
 use Rattle.std.proofs.lemmas.Iterator.Adapters.{YieldsList-from_vec}
-use Rattle.plain_file.specs.declared.operations.Entry.{Entry}
-use Rattle.page_map.specs.declared.ranges.LogEntry.{LogEntry}
 use Rattle.transcript_text.specs.declared.transcripts.FilePart.{FilePart}
 use Rattle.transcript_text.specs.TranscriptReading.{IsPrintableFile}
 use Rattle.guest_run.specs.Runs.{part_of, parts_from}

@@ -1,4 +1,4 @@
-use Rattle.std.proofs.Common.{◌≡◌, ◌∙◌, ap, sym, subst, refl, ℕ, List, length}
+use Rattle.std.proofs.Common.{◌∙◌, ap, sym, subst, refl, ℕ, List, length}
 use Rattle.plain_file.specs.declared.operations.First.{First}
 use Rattle.dax_script.specs.declared.scripts.Call.{Call}
 use Rattle.dax_script.specs.declared.scripts.FileLine.{FileLine}

@@ -1,10 +1,8 @@
-use Rattle.std.proofs.Common.{◌≡◌, ◌∙◌, ap, refl, ℕ, ◌*◌, subst}
+use Rattle.std.proofs.Common.{◌∙◌, ap, refl, ◌*◌}
 use Rattle.plain_file.specs.Board.{BoardView}
-use Rattle.page_map.specs.Board.{MapView}
 use Rattle.page_map.specs.Plain.{range_pages}
-use Rattle.guest_wire.specs.Wires.{WireView, Boards, boards}
-use Rattle.daxrun.specs.Carried.{names_of}
-use Rattle.daxrun.specs.Session.{IsOpened, empty_firsts, whole_wire}
+use Rattle.guest_wire.specs.Wires.{WireView}
+use Rattle.daxrun.specs.Session.{empty_firsts}
 use Rattle.daxrun.proofs.Opening.{small_new, empty_small}
 use Rattle.daxrun.proofs.Playing.{servable_new}
 use Rattle.daxrun.proofs.sessions.open_session.Goals as goal
