@@ -4,3 +4,4 @@ pub mod Opening
 pub mod Playing
 pub mod PlainGuest
 pub mod Playable
+pub mod Halving

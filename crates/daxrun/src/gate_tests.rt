@@ -21,15 +21,6 @@ struct Meeting {
     faults: AtomicU32,
 }
 
-fn make_meeting(meet: bool) -> Meeting {
-    Meeting {
-        meet,
-        first: AtomicU32::new(0),
-        second: AtomicU32::new(0),
-        faults: AtomicU32::new(0),
-    }
-}
-
 impl Gate for Meeting {
     fn at<R: Wait>(&self, _rt: &R, guest: u32, call: u32, point: Point) {
         let (own, other) = match guest {
@@ -61,7 +52,12 @@ impl Gate for Meeting {
 #[test]
 fn two_guests_at_the_gate(rt: HostRuntime) -> Result<(), Fail> {
     let alloc = rt.alloc();
-    let gate = make_meeting(true);
+    let gate = Meeting {
+        meet: true,
+        first: AtomicU32::new(0),
+        second: AtomicU32::new(0),
+        faults: AtomicU32::new(0),
+    };
     let (status, taken) = answer_to(&rt, alloc, TWO.as_bytes(), &gate)?;
     assert_eq!(rt; gate.faults.load(SeqCst), 0);
     assert_eq!(rt; (gate.first.load(SeqCst), gate.second.load(SeqCst)), (2, 2));
@@ -74,7 +70,12 @@ fn two_guests_at_the_gate(rt: HostRuntime) -> Result<(), Fail> {
 // Before and after each of two calls.
 #[test]
 fn a_gate_stands_round_each_call(rt: HostRuntime) -> Result<(), Fail> {
-    let gate = make_meeting(false);
+    let gate = Meeting {
+        meet: false,
+        first: AtomicU32::new(0),
+        second: AtomicU32::new(0),
+        faults: AtomicU32::new(0),
+    };
     let (status, _taken) = answer_to(&rt, rt.alloc(), UPGRADE.as_bytes(), &gate)?;
     assert_eq!(rt; status, Status::Ok);
     assert_eq!(rt; gate.faults.load(SeqCst), 0);

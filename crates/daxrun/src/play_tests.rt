@@ -11,16 +11,18 @@ use crate::run_tests::{FOUR, RECLAIM, UPGRADE};
 use crate::sessions::{
     daemon_of, end_session, firsts_of, open_session, opening_board, start_session,
 };
-use dax_host::SoloWire;
+use dax_host::{HostWire, SoloWire};
 use dax_script::{FileLine, Script, parse};
 use fuse_wire::InHeader;
 use guest_dax::Dax;
 use guest_io::Guest;
 use guest_run::{OpenGate, worker};
+use guest_threads::{Tables, open_tables};
 use guest_wire::{Driver, FileRef, KeepWire, Wire};
-use page_map::{PAGES_OF_RANGE, PageMap};
+use page_map::{MapBoard, Mode, PAGES_OF_RANGE, PageMap, RANGE_SIZE, Span};
 use plain_file::{Blob, List, Memory, PlainFiles};
-use range_tree::PlainRanges;
+use range_share::SeatMap;
+use range_tree::{PlainRanges, RangeBoard};
 use std::alloc::Global;
 use std::process::Abort;
 use std::sync::Wait;
@@ -167,5 +169,63 @@ fn sends_what_calls_need(rt: HostRuntime) -> Result<(), Fail> {
         let wire = KeepWire::new(alloc, SoloWire::new(alloc, daemon)?);
         calls_by(&rt, alloc, &script, Driver::new(wire), opened, opcodes)?;
     }
+    Ok(())
+}
+
+// SETUPMAPPING of the lower half of range 0 to the file of node 2, opened as handle 1, for reading.
+const HALF: &[u8] =
+    b"\x50\0\0\0\x30\0\0\0\x01\0\0\0\0\0\0\0\x02\0\0\0\0\0\0\0\0\0\0\0\0\0\0\0\0\0\0\0\0\0\0\0\x01\0\0\0\0\0\0\0\0\0\0\0\0\0\0\0\0\0\x10\0\0\0\0\0\x02\0\0\0\0\0\0\0\0\0\0\0\0\0\0\0";
+
+// EBUSY.
+const BUSY: &[u8] = b"\x10\0\0\0\xf0\xff\xff\xff\x01\0\0\0\0\0\0\0";
+
+// A guest that moves a range may map the whole of it, and its wire refuses to map a half: the map word stays as it was.
+#[test]
+fn half_a_range_is_not_mapped(rt: HostRuntime) -> Result<(), Fail> {
+    let alloc = rt.alloc();
+    let Some(script) = script_in(alloc, UPGRADE.as_bytes()) else {
+        panic!(&rt; "no script")
+    };
+    let count = script.ranges;
+    let lines = script.files.as_slice();
+    let guests = script.guests.as_slice();
+    let members = guests.len();
+    if count == 0 {
+        panic!(&rt; "no ranges")
+    }
+    if members == 0 {
+        panic!(&rt; "no guest")
+    }
+    let daemon = daemon_of(alloc, &script)?;
+    let (daemon, opened) = open_session(&rt, alloc, lines, count, daemon)?;
+    let handles = opened.as_slice();
+    let firsts = firsts_of(alloc, lines)?;
+    let tables = open_tables(alloc, &firsts, count, guests, 0)?;
+    let Tables {
+        ranges,
+        mut range_pass,
+        ..
+    } = tables;
+    let mut files = opening_board(alloc)?;
+    let pass = ranges.split(&mut range_pass, 0);
+    let mut map = SeatMap::new(&ranges, pass);
+    let Ok(()) = map.take(0) else {
+        panic!(&rt; "the range isn't free")
+    };
+    let mut wire = HostWire::new(alloc, &daemon)?;
+    let Ok(answer) = wire.submit(&rt, alloc, HALF, 16, &mut files, &mut map) else {
+        panic!(&rt; "no answer")
+    };
+    assert_eq!(rt; answer.as_slice(), BUSY);
+    assert_eq!(rt; map.target(0), None);
+    let whole = Span {
+        node: 2,
+        foffset: 0,
+        moffset: 0,
+        len: RANGE_SIZE,
+        mode: Mode::R,
+    };
+    assert!(rt; map.may_set(&whole));
+    assert_eq!(rt; handles.len(), 1);
     Ok(())
 }

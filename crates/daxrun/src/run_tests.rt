@@ -46,14 +46,6 @@ struct Ends(u32, u64);
 
 const SURE: Ends = Ends(0, 0);
 
-fn words_of(alloc: Global, words: &[&[u8]]) -> Result<List<Word>, Memory> {
-    let mut list = List::new(alloc);
-    for word in words {
-        list.push(Blob::copy_of(alloc, word)?)?;
-    }
-    Ok(list)
-}
-
 // Whether what is shown is what was taken: with the status Ok a script and a transcript with that text, else nothing.
 fn is_shown(alloc: Global, shown: &Shown, status: Status, taken: &[u8]) -> Result<bool, Memory> {
     match shown {
@@ -77,13 +69,16 @@ fn ran<R: Threads + Wait + Sync + Abort, G: Gate + Sync>(
     to: Ends,
     gate: &G,
 ) -> Result<(Status, Blob), Fail> {
-    let words = words_of(alloc, words)?;
+    let mut list: List<Word> = List::new(alloc);
+    for word in words {
+        list.push(Blob::copy_of(alloc, word)?)?;
+    }
     let Ends(piece, fails) = from;
     let mut source = MemSource::new(input, piece, List::from_vec(vec![in alloc; fails; 1]?));
     let Ends(piece, fails) = to;
     let mut sink = MemSink::new(alloc, piece, List::from_vec(vec![in alloc; fails; 1]?));
     let mut shown = Shown::Nothing;
-    let words = words.as_slice();
+    let words = list.as_slice();
     let status = run(rt, alloc, words, &mut source, &mut sink, gate, &mut shown);
     let taken = sink.bytes().clone()?;
     assert!(rt; is_shown(alloc, &shown, status, taken.as_slice())?);
@@ -459,7 +454,8 @@ fn sources_and_sinks_go_in_pieces_and_fail(rt: HostRuntime) -> Result<(), Fail> 
 #[test]
 fn nothing_fails_over_sure_ends(rt: HostRuntime) -> Result<(), Fail> {
     let alloc = rt.alloc();
-    let words = words_of(alloc, &[b"script".as_slice()])?;
+    let mut words: List<Word> = List::new(alloc);
+    words.push(Blob::copy_of(alloc, b"script")?)?;
     let mut source = SureSource::new(Blob::copy_of(alloc, HELLO.as_bytes())?);
     let status = run(
         &rt,
