@@ -66,7 +66,7 @@ impl Played {
 ///
 /// The tables were opened for the script's files, ranges, guests and background, and their first passes did nothing
 /// yet. The files are open at the daemon, whose session is started. The transcript has the histories and the placement
-/// logs that the first passes have seen at the end, which is all of them, and is legal for the script. For each guest
+/// logs that the first passes have seen at the end, and is legal for the script. For each guest
 /// the first passes keep as many rounds of ranges, each pinned or moving, as it has busy lines, and as many refused
 /// bars on each file as leased lines; and for the background as many sweeps as it has turns, or more.
 ///

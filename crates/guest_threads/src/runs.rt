@@ -91,7 +91,7 @@ fn first_parts(parts: List<GuestPart>, count: usize) -> List<GuestPart>
 /// started, and its window has the ranges' pages.
 ///
 /// Whatever the schedule, each guest's part is its run in the histories and placement logs that the first passes have
-/// seen at the end, which is all of them: each call that is done stands in its file's history once, in the guest's
+/// seen at the end: each call that is done stands in its file's history once, in the guest's
 /// order, with the plain file's answer there; each access through the window names placements then live for that file
 /// and chunk. The logs are sound, and each entry is that of a guest. What is told of each file is whose each entry of
 /// that history is, and that log.
