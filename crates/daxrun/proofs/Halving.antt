@@ -1,5 +1,5 @@
 -- The board of ranges of a run's first guest, which did nothing yet, and the board once a range was taken.
-use Rattle.std.proofs.Common.{◌≡◌, ◌∙◌, ap, sym, subst, ℕ, ◌<◌, ◌≤◌, ◌*◌, List, length, None, Result, Ok, arith}
+use Rattle.std.proofs.Common.{◌≡◌, ◌∙◌, ap, sym, subst, ℕ, ◌<◌, ◌≤◌, ◌*◌, length, None, Result, Ok, arith}
 use Rattle.page_map.specs.Plain.{range_pages}
 use Rattle.page_map.specs.Board.{MapView}
 use Rattle.page_map.specs.declared.ranges.RangeWord.{RangeWord}
@@ -7,8 +7,6 @@ use Rattle.plain_file.specs.Board.{BoardView}
 use Rattle.range_tree.specs.Ranges.{Takes, IsTaken, range_count}
 use Rattle.range_share.specs.Known.{Known, child_pass}
 use Rattle.range_share.specs.Boards.{board_of}
-use Rattle.range_share.specs.Steps.{ranges_of}
-use Rattle.fuse_device.specs.State.{State}
 use Rattle.guest_wire.specs.Wires.{CanShare, boards}
 use Rattle.guest_threads.specs.Jobs.{Team, IsTeam, firsts_of, count_of}
 use Rattle.guest_threads.proofs.Fresh.{fresh_ranges, new_ranges_pass, fresh_ranges_count, fresh_moves, fresh_pages}

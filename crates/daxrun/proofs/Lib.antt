@@ -4,4 +4,5 @@ pub mod Opening
 pub mod Playing
 pub mod PlainGuest
 pub mod Playable
+pub mod Teams
 pub mod Halving

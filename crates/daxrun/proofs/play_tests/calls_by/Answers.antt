@@ -8,7 +8,6 @@ use Rattle.range_tree.specs.Ranges.{range_count}
 use Rattle.dax_script.specs.declared.scripts.Call.{Call}
 use Rattle.dax_script.specs.declared.scripts.FileLine.{FileLine}
 use Rattle.guest_wire.specs.declared.driver.FileRef.{FileRef}
-use Rattle.guest_wire.specs.Wires.{boards}
 use Rattle.guest_run.specs.Working.{AreCalls, max_calls}
 use Rattle.guest_run.proofs.Places.{at_index, map_len}
 use Rattle.daxrun.specs.Carried.{names_of}

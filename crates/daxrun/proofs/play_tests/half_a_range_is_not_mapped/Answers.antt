@@ -1,4 +1,4 @@
-use Rattle.std.proofs.Common.{◌≡◌, ◌∙◌, ap, sym, subst, refl, ℕ, ◌<◌, ◌≤◌, List, length, get_or, Ok, arith}
+use Rattle.std.proofs.Common.{◌≡◌, ◌∙◌, ap, sym, subst, refl, ◌<◌, ◌≤◌, List, length, get_or, Ok, arith}
 use Rattle.std.proofs.lemmas.List.{length-replicate}
 use Rattle.plain_file.specs.declared.operations.First.{First}
 use Rattle.plain_file.specs.File.{max_file}
@@ -9,16 +9,13 @@ use Rattle.page_map.specs.Board.{Hands}
 use Rattle.range_share.specs.Boards.{board_of}
 use Rattle.fuse_device.specs.State.{State}
 use Rattle.guest_wire.specs.Wires.{WireView, CanShare, boards}
-use Rattle.dax_script.specs.declared.scripts.Call.{Call}
-use Rattle.dax_script.specs.declared.scripts.FileLine.{FileLine}
-use Rattle.guest_wire.specs.declared.driver.FileRef.{FileRef}
 use Rattle.guest_run.proofs.Places.{all_at, map_len}
-use Rattle.guest_threads.specs.Jobs.{IsServed, IsTeam, team, team_of, leasers_for}
-use Rattle.guest_threads.proofs.Ended.{opened_team, firsts_new, ranges_new}
+use Rattle.guest_threads.specs.Jobs.{IsTeam, team, team_of, leasers_for}
+use Rattle.guest_threads.proofs.Ended.{firsts_new, ranges_new}
 use Rattle.guest_threads.proofs.Backing.{team_many}
-use Rattle.daxrun.specs.Session.{firsts_of, IsOpenAt, empty_firsts}
+use Rattle.daxrun.specs.Session.{firsts_of, empty_firsts}
 use Rattle.daxrun.proofs.Opening.{firsts_small}
-use Rattle.daxrun.proofs.Playing.{served_open}
+use Rattle.daxrun.proofs.Teams.{firsts_many, session_team}
 use Rattle.daxrun.proofs.Halving.{half_may, half_count, half_free, half_share, half_counted, half_taken}
 use Rattle.daxrun.proofs.play_tests.half_a_range_is_not_mapped.Goals as goal
 
@@ -32,51 +29,33 @@ open_tables-requires-clause-small g c = λ k d lt.
 pub new-map-requires-clause-may : goal.new-map-requires-clause-may
 new-map-requires-clause-may g c =
     let s = c.in-Some.script in
-    let may = c.in-Some.ensures in
     let o = c.in_ok-tables.ensures in
     let tables = c.in_ok-tables.tables in
-    let lines = c.as_slice-lines.ensures in
+    let lines = c.as_slice-lines in
     let guests = c.as_slice-guests.result.now in
-    let same : guests ≡ s.guests = c.as_slice-guests.ensures in
     let firsts = c.in_ok-firsts.firsts in
     let n = length (team_of 0 guests) in
-    let at_least = (team_many 0 guests).0 in
-    let few : n ≤ 17 = (let many = (team_many 0 guests).1 in let most = may.guests.most in let len = ap (λ (l : List (List Call)). length l) same in omega (arith, many, most, len)) in
-    let some : 0 < n = (let none = c.if-members-eq0.false in omega (arith, at_least, none)) in
-    let counted : length c.in_ok-daemon-2.opened.items ≡ length s.files = c.in_ok-daemon-2.ensures.count ∙ ap (λ (l : List FileLine). length l) lines in
-    let opened : IsOpenAt s.files s.ranges c.in_ok-daemon-2.opened.items c.in_ok-daemon-2.daemon = subst (λ (fs : List FileLine). IsOpenAt fs s.ranges c.in_ok-daemon-2.opened.items c.in_ok-daemon-2.daemon) lines c.in_ok-daemon-2.ensures.opened in
-    let many : length firsts ≡ length s.files = ap (λ (l : List First). length l) (c.in_ok-firsts.ensures ∙ ap firsts_of lines) ∙ map_len (λ (f : FileLine). f.first) s.files in
-    let served : IsServed c.in_ok-daemon-2.daemon c.as_slice-handles.result.now (length firsts) s.ranges =
-    subst (λ (z : List FileRef × ℕ). IsServed c.in_ok-daemon-2.daemon z.0 z.1 s.ranges) (λ i. (sym c.as_slice-handles.ensures.value i, sym many i)) (served_open s.files s.ranges c.in_ok-daemon-2.opened.items c.in_ok-daemon-2.daemon counted opened) in
-    let files_few : length firsts ≤ 64 = (let most = may.files.few in omega (arith, most, many)) in
-    let t = team c.in_ok-daemon-2.daemon c.as_slice-handles.result.now tables.file_pass tables.range_pass n in
-    let is : IsTeam t = opened_team c.in_ok-daemon-2.daemon c.as_slice-handles.result.now tables.files tables.ranges tables.file_pass tables.range_pass firsts (leasers_for s.ranges n) s.ranges (length firsts) n
-    o.files_pass o.ranges_pass refl refl o.slots few files_few may.ranges.most may.ranges.not_one served in
+    let some : 0 < n = (let at_least = (team_many 0 guests).0 in let none = c.if-members-eq0.false in omega (arith, at_least, none)) in
+    let session = c.in_ok-daemon-2 in
+    let t = team session.daemon c.as_slice-handles.result.now tables.file_pass tables.range_pass n in
+    let is : IsTeam t = session_team s c.in-Some.ensures lines.result.now lines.ensures firsts c.in_ok-firsts.ensures 0 guests c.as_slice-guests.ensures session.daemon session.opened.items
+    c.as_slice-handles.result.now c.as_slice-handles.ensures.value session.ensures.count session.ensures.opened tables o in
     half_may t is some c.split-pass.result c.split-pass.ensures.given
 
 pub take-requires-clause-range : goal.take-requires-clause-range
 take-requires-clause-range g c =
     let s = c.in-Some.script in
-    let may = c.in-Some.ensures in
     let o = c.in_ok-tables.ensures in
     let tables = c.in_ok-tables.tables in
-    let lines = c.as_slice-lines.ensures in
+    let lines = c.as_slice-lines in
     let guests = c.as_slice-guests.result.now in
-    let same : guests ≡ s.guests = c.as_slice-guests.ensures in
     let firsts = c.in_ok-firsts.firsts in
     let n = length (team_of 0 guests) in
-    let at_least = (team_many 0 guests).0 in
-    let few : n ≤ 17 = (let many = (team_many 0 guests).1 in let most = may.guests.most in let len = ap (λ (l : List (List Call)). length l) same in omega (arith, many, most, len)) in
-    let some : 0 < n = (let none = c.if-members-eq0.false in omega (arith, at_least, none)) in
-    let counted : length c.in_ok-daemon-2.opened.items ≡ length s.files = c.in_ok-daemon-2.ensures.count ∙ ap (λ (l : List FileLine). length l) lines in
-    let opened : IsOpenAt s.files s.ranges c.in_ok-daemon-2.opened.items c.in_ok-daemon-2.daemon = subst (λ (fs : List FileLine). IsOpenAt fs s.ranges c.in_ok-daemon-2.opened.items c.in_ok-daemon-2.daemon) lines c.in_ok-daemon-2.ensures.opened in
-    let many : length firsts ≡ length s.files = ap (λ (l : List First). length l) (c.in_ok-firsts.ensures ∙ ap firsts_of lines) ∙ map_len (λ (f : FileLine). f.first) s.files in
-    let served : IsServed c.in_ok-daemon-2.daemon c.as_slice-handles.result.now (length firsts) s.ranges =
-    subst (λ (z : List FileRef × ℕ). IsServed c.in_ok-daemon-2.daemon z.0 z.1 s.ranges) (λ i. (sym c.as_slice-handles.ensures.value i, sym many i)) (served_open s.files s.ranges c.in_ok-daemon-2.opened.items c.in_ok-daemon-2.daemon counted opened) in
-    let files_few : length firsts ≤ 64 = (let most = may.files.few in omega (arith, most, many)) in
-    let t = team c.in_ok-daemon-2.daemon c.as_slice-handles.result.now tables.file_pass tables.range_pass n in
-    let is : IsTeam t = opened_team c.in_ok-daemon-2.daemon c.as_slice-handles.result.now tables.files tables.ranges tables.file_pass tables.range_pass firsts (leasers_for s.ranges n) s.ranges (length firsts) n
-    o.files_pass o.ranges_pass refl refl o.slots few files_few may.ranges.most may.ranges.not_one served in
+    let some : 0 < n = (let at_least = (team_many 0 guests).0 in let none = c.if-members-eq0.false in omega (arith, at_least, none)) in
+    let session = c.in_ok-daemon-2 in
+    let t = team session.daemon c.as_slice-handles.result.now tables.file_pass tables.range_pass n in
+    let is : IsTeam t = session_team s c.in-Some.ensures lines.result.now lines.ensures firsts c.in_ok-firsts.ensures 0 guests c.as_slice-guests.ensures session.daemon session.opened.items
+    c.as_slice-handles.result.now c.as_slice-handles.ensures.value session.ensures.count session.ensures.opened tables o in
     let given = c.new-map.ensures.pass ∙ c.split-pass.ensures.given in
     let ranges = ranges_new tables.ranges tables.range_pass s.ranges (length firsts) n o.ranges_pass in
     let count = half_count t is some c.new-map.result.pass given in
@@ -85,57 +64,39 @@ take-requires-clause-range g c =
 pub take-requires-clause-free : goal.take-requires-clause-free
 take-requires-clause-free g c =
     let s = c.in-Some.script in
-    let may = c.in-Some.ensures in
     let o = c.in_ok-tables.ensures in
     let tables = c.in_ok-tables.tables in
-    let lines = c.as_slice-lines.ensures in
+    let lines = c.as_slice-lines in
     let guests = c.as_slice-guests.result.now in
-    let same : guests ≡ s.guests = c.as_slice-guests.ensures in
     let firsts = c.in_ok-firsts.firsts in
     let n = length (team_of 0 guests) in
-    let at_least = (team_many 0 guests).0 in
-    let few : n ≤ 17 = (let many = (team_many 0 guests).1 in let most = may.guests.most in let len = ap (λ (l : List (List Call)). length l) same in omega (arith, many, most, len)) in
-    let some : 0 < n = (let none = c.if-members-eq0.false in omega (arith, at_least, none)) in
-    let counted : length c.in_ok-daemon-2.opened.items ≡ length s.files = c.in_ok-daemon-2.ensures.count ∙ ap (λ (l : List FileLine). length l) lines in
-    let opened : IsOpenAt s.files s.ranges c.in_ok-daemon-2.opened.items c.in_ok-daemon-2.daemon = subst (λ (fs : List FileLine). IsOpenAt fs s.ranges c.in_ok-daemon-2.opened.items c.in_ok-daemon-2.daemon) lines c.in_ok-daemon-2.ensures.opened in
-    let many : length firsts ≡ length s.files = ap (λ (l : List First). length l) (c.in_ok-firsts.ensures ∙ ap firsts_of lines) ∙ map_len (λ (f : FileLine). f.first) s.files in
-    let served : IsServed c.in_ok-daemon-2.daemon c.as_slice-handles.result.now (length firsts) s.ranges =
-    subst (λ (z : List FileRef × ℕ). IsServed c.in_ok-daemon-2.daemon z.0 z.1 s.ranges) (λ i. (sym c.as_slice-handles.ensures.value i, sym many i)) (served_open s.files s.ranges c.in_ok-daemon-2.opened.items c.in_ok-daemon-2.daemon counted opened) in
-    let files_few : length firsts ≤ 64 = (let most = may.files.few in omega (arith, most, many)) in
-    let t = team c.in_ok-daemon-2.daemon c.as_slice-handles.result.now tables.file_pass tables.range_pass n in
-    let is : IsTeam t = opened_team c.in_ok-daemon-2.daemon c.as_slice-handles.result.now tables.files tables.ranges tables.file_pass tables.range_pass firsts (leasers_for s.ranges n) s.ranges (length firsts) n
-    o.files_pass o.ranges_pass refl refl o.slots few files_few may.ranges.most may.ranges.not_one served in
+    let some : 0 < n = (let at_least = (team_many 0 guests).0 in let none = c.if-members-eq0.false in omega (arith, at_least, none)) in
+    let session = c.in_ok-daemon-2 in
+    let t = team session.daemon c.as_slice-handles.result.now tables.file_pass tables.range_pass n in
+    let is : IsTeam t = session_team s c.in-Some.ensures lines.result.now lines.ensures firsts c.in_ok-firsts.ensures 0 guests c.as_slice-guests.ensures session.daemon session.opened.items
+    c.as_slice-handles.result.now c.as_slice-handles.ensures.value session.ensures.count session.ensures.opened tables o in
     half_free t is some c.new-map.result.pass (c.new-map.ensures.pass ∙ c.split-pass.ensures.given)
 
 pub submit-requires-clause-boards : goal.submit-requires-clause-boards
 submit-requires-clause-boards g c = λ honest.
     let s = c.in-Some.script in
-    let may = c.in-Some.ensures in
     let o = c.in_ok-tables.ensures in
     let tables = c.in_ok-tables.tables in
-    let lines = c.as_slice-lines.ensures in
+    let lines = c.as_slice-lines in
     let guests = c.as_slice-guests.result.now in
-    let same : guests ≡ s.guests = c.as_slice-guests.ensures in
     let firsts = c.in_ok-firsts.firsts in
     let n = length (team_of 0 guests) in
-    let at_least = (team_many 0 guests).0 in
-    let few : n ≤ 17 = (let many = (team_many 0 guests).1 in let most = may.guests.most in let len = ap (λ (l : List (List Call)). length l) same in omega (arith, many, most, len)) in
-    let some : 0 < n = (let none = c.if-members-eq0.false in omega (arith, at_least, none)) in
-    let counted : length c.in_ok-daemon-2.opened.items ≡ length s.files = c.in_ok-daemon-2.ensures.count ∙ ap (λ (l : List FileLine). length l) lines in
-    let opened : IsOpenAt s.files s.ranges c.in_ok-daemon-2.opened.items c.in_ok-daemon-2.daemon = subst (λ (fs : List FileLine). IsOpenAt fs s.ranges c.in_ok-daemon-2.opened.items c.in_ok-daemon-2.daemon) lines c.in_ok-daemon-2.ensures.opened in
-    let many : length firsts ≡ length s.files = ap (λ (l : List First). length l) (c.in_ok-firsts.ensures ∙ ap firsts_of lines) ∙ map_len (λ (f : FileLine). f.first) s.files in
-    let served : IsServed c.in_ok-daemon-2.daemon c.as_slice-handles.result.now (length firsts) s.ranges =
-    subst (λ (z : List FileRef × ℕ). IsServed c.in_ok-daemon-2.daemon z.0 z.1 s.ranges) (λ i. (sym c.as_slice-handles.ensures.value i, sym many i)) (served_open s.files s.ranges c.in_ok-daemon-2.opened.items c.in_ok-daemon-2.daemon counted opened) in
-    let files_few : length firsts ≤ 64 = (let most = may.files.few in omega (arith, most, many)) in
-    let t = team c.in_ok-daemon-2.daemon c.as_slice-handles.result.now tables.file_pass tables.range_pass n in
-    let is : IsTeam t = opened_team c.in_ok-daemon-2.daemon c.as_slice-handles.result.now tables.files tables.ranges tables.file_pass tables.range_pass firsts (leasers_for s.ranges n) s.ranges (length firsts) n
-    o.files_pass o.ranges_pass refl refl o.slots few files_few may.ranges.most may.ranges.not_one served in
+    let some : 0 < n = (let at_least = (team_many 0 guests).0 in let none = c.if-members-eq0.false in omega (arith, at_least, none)) in
+    let session = c.in_ok-daemon-2 in
+    let t = team session.daemon c.as_slice-handles.result.now tables.file_pass tables.range_pass n in
+    let is : IsTeam t = session_team s c.in-Some.ensures lines.result.now lines.ensures firsts c.in_ok-firsts.ensures 0 guests c.as_slice-guests.ensures session.daemon session.opened.items
+    c.as_slice-handles.result.now c.as_slice-handles.ensures.value session.ensures.count session.ensures.opened tables o in
     let given = c.new-map.ensures.pass ∙ c.split-pass.ensures.given in
     let taken = half_taken (board_of c.new-map.result.pass) (board_of c.take.new.self.pass) 0 (Ok c.in-Ok.field-0) c.in-Ok.field-0 refl c.in-Ok.ensures in
     let state : c.in_ok-daemon-2.daemon ≡ c.in_ok-wire.wire.daemon.now = sym (ap (λ (w : WireView). w.state) c.in_ok-wire.ensures.wire) in
     let sixteen = ap (λ (v : BoardView). length v.files) c.in_ok-files.ensures ∙ (map_len new_file empty_firsts ∙ length-replicate {A = First} max_files (record { size = 0; fill = 0 })) in
     let same_firsts = ap (λ (l : List First). length l) (firsts_new tables.files tables.file_pass firsts (leasers_for s.ranges n) o.files_pass) in
-    let enough : length tables.file_pass.view.mine.firsts ≤ length c.in_ok-files.files.files = (let most = may.files.few in omega (arith, most, many, sixteen, same_firsts)) in
+    let enough : length tables.file_pass.view.mine.firsts ≤ length c.in_ok-files.files.files = (let most = c.in-Some.ensures.files.few in let many = firsts_many s c.in-Some.ensures lines.result.now lines.ensures firsts c.in_ok-firsts.ensures in omega (arith, most, many, sixteen, same_firsts)) in
     let free = ap (λ (v : BoardView). v.hands.turn) c.in_ok-files.ensures in
     subst (λ (d : State). CanShare d (boards c.in_ok-files.files (board_of c.take.new.self.pass))) state
     (half_share t is some c.new-map.result.pass given c.in_ok-files.files 0 (board_of c.take.new.self.pass) enough free taken)
@@ -143,26 +104,17 @@ submit-requires-clause-boards g c = λ honest.
 pub target-requires : goal.target-requires
 target-requires g c =
     let s = c.in-Some.script in
-    let may = c.in-Some.ensures in
     let o = c.in_ok-tables.ensures in
     let tables = c.in_ok-tables.tables in
-    let lines = c.as_slice-lines.ensures in
+    let lines = c.as_slice-lines in
     let guests = c.as_slice-guests.result.now in
-    let same : guests ≡ s.guests = c.as_slice-guests.ensures in
     let firsts = c.in_ok-firsts.firsts in
     let n = length (team_of 0 guests) in
-    let at_least = (team_many 0 guests).0 in
-    let few : n ≤ 17 = (let many = (team_many 0 guests).1 in let most = may.guests.most in let len = ap (λ (l : List (List Call)). length l) same in omega (arith, many, most, len)) in
-    let some : 0 < n = (let none = c.if-members-eq0.false in omega (arith, at_least, none)) in
-    let counted : length c.in_ok-daemon-2.opened.items ≡ length s.files = c.in_ok-daemon-2.ensures.count ∙ ap (λ (l : List FileLine). length l) lines in
-    let opened : IsOpenAt s.files s.ranges c.in_ok-daemon-2.opened.items c.in_ok-daemon-2.daemon = subst (λ (fs : List FileLine). IsOpenAt fs s.ranges c.in_ok-daemon-2.opened.items c.in_ok-daemon-2.daemon) lines c.in_ok-daemon-2.ensures.opened in
-    let many : length firsts ≡ length s.files = ap (λ (l : List First). length l) (c.in_ok-firsts.ensures ∙ ap firsts_of lines) ∙ map_len (λ (f : FileLine). f.first) s.files in
-    let served : IsServed c.in_ok-daemon-2.daemon c.as_slice-handles.result.now (length firsts) s.ranges =
-    subst (λ (z : List FileRef × ℕ). IsServed c.in_ok-daemon-2.daemon z.0 z.1 s.ranges) (λ i. (sym c.as_slice-handles.ensures.value i, sym many i)) (served_open s.files s.ranges c.in_ok-daemon-2.opened.items c.in_ok-daemon-2.daemon counted opened) in
-    let files_few : length firsts ≤ 64 = (let most = may.files.few in omega (arith, most, many)) in
-    let t = team c.in_ok-daemon-2.daemon c.as_slice-handles.result.now tables.file_pass tables.range_pass n in
-    let is : IsTeam t = opened_team c.in_ok-daemon-2.daemon c.as_slice-handles.result.now tables.files tables.ranges tables.file_pass tables.range_pass firsts (leasers_for s.ranges n) s.ranges (length firsts) n
-    o.files_pass o.ranges_pass refl refl o.slots few files_few may.ranges.most may.ranges.not_one served in
+    let some : 0 < n = (let at_least = (team_many 0 guests).0 in let none = c.if-members-eq0.false in omega (arith, at_least, none)) in
+    let session = c.in_ok-daemon-2 in
+    let t = team session.daemon c.as_slice-handles.result.now tables.file_pass tables.range_pass n in
+    let is : IsTeam t = session_team s c.in-Some.ensures lines.result.now lines.ensures firsts c.in_ok-firsts.ensures 0 guests c.as_slice-guests.ensures session.daemon session.opened.items
+    c.as_slice-handles.result.now c.as_slice-handles.ensures.value session.ensures.count session.ensures.opened tables o in
     let given = c.new-map.ensures.pass ∙ c.split-pass.ensures.given in
     let taken = half_taken (board_of c.new-map.result.pass) (board_of c.take.new.self.pass) 0 (Ok c.in-Ok.field-0) c.in-Ok.field-0 refl c.in-Ok.ensures in
     let ranges = ranges_new tables.ranges tables.range_pass s.ranges (length firsts) n o.ranges_pass in
